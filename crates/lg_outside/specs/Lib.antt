@@ -1,0 +1,5 @@
+pub mod Faults
+pub mod MemoryStreams
+pub mod Plan
+pub mod PlanOf
+pub mod Streams
