@@ -1,0 +1,7 @@
+//! `loginctl`: replays scripts of sessions against the login server's rules.
+#![tactic(auto)]
+
+mod input;
+mod script_text;
+
+fn main() {}
