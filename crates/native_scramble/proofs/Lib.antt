@@ -1,0 +1,2 @@
+pub mod NativeLaws
+pub mod UpperHex
