@@ -1,24 +1,19 @@
 -- Upper-case hexadecimal text: writing it from lower case, and that it is read.
-use Rattle.std.proofs.Common.{◌≡◌, ℕ, zero, suc, ◌+◌, ◌*◌, ◌-◌, ◌/◌, ◌%◌, ◌<◌, ◌≤◌, true, List, [], ◌∷◌, length, slice_index, map, refl, sym, ap, ◌∙◌, arith}
+use Rattle.std.proofs.Common.{◌≡◌, ℕ, zero, suc, ◌+◌, ◌*◌, ◌-◌, ◌/◌, ◌%◌, ◌<◌, ◌≤◌, true, List, [], ◌∷◌, length, slice_index, map, refl, sym, ap, ◌∙◌, arith, subst, ◌⊎◌, inl, inr, take, drop}
 use Rattle.std.specs.Char.{to_ascii_uppercase}
-use Rattle.std.proofs.lemmas.List.{get_or_append_left, get_or-append_right}
-use Rattle.std.proofs.lemmas.List.FromFn.{length-range_with_len, get_or-range_with_len}
-use Rattle.std.specs.List.{range_with_len}
-use Rattle.std.proofs.lemmas.Bool.Decides.{nat_tests}
-use Rattle.std.proofs.lemmas.Bool.{cases_lt}
-use Rattle.std.proofs.Common.{subst}
-use Rattle.std.proofs.Common.{◌⊎◌, inl, inr}
-use Rattle.native_scramble.specs.Native.{is_upper_hex_digit}
-use Rattle.std.specs.List.{AllPass}
+use Rattle.std.specs.List.{range_with_len, AllPass}
 use Rattle.std.specs.Prelude.{Ok, Err, Result, Some, IsSome, IfSome, ◌↔◌}
 use Rattle.std.specs.Result.{result_ok, result_unwrap_or}
-use Rattle.std.proofs.Common.{take, drop}
 use Rattle.std.proofs.Math.Seq.{take-length}
-use Rattle.hex.specs.declared.error.FromHexError.{FromHexError}
-use Rattle.native_scramble.specs.Native.{IsNativeText, native_text}
+use Rattle.std.proofs.lemmas.Bool.{cases_lt}
+use Rattle.std.proofs.lemmas.Bool.Decides.{nat_tests}
+use Rattle.std.proofs.lemmas.List.{get_or_append_left, get_or-append_right}
 use Rattle.std.proofs.lemmas.List.Elements.{All-head, All-tail, All-nil, All-cons}
+use Rattle.std.proofs.lemmas.List.FromFn.{length-range_with_len, get_or-range_with_len}
 use Rattle.hex.proofs.HexLemmas.{decode_of-encode_upper, decode_sized-ok, decode_sized-twice, length-encode_with}
 use Rattle.hex.specs.Hex.{IsBytes, decode_of, decode_sized, encode_lower, encode_upper, encode_with, lower_digits, upper_digits}
+use Rattle.hex.specs.declared.error.FromHexError.{FromHexError}
+use Rattle.native_scramble.specs.Native.{is_upper_hex_digit, IsNativeText, native_text}
 
 -- a digit of the lower-case table in upper case
 slice_index-map : (xs : List ℕ) (k : ℕ) → to_ascii_uppercase (slice_index xs k) ≡ slice_index (map to_ascii_uppercase xs) k

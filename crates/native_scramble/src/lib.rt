@@ -1,5 +1,5 @@
-//! The method `mysql_native_password`: a password is proved by an answer to the server's nonce that
-//! neither shows the password nor what the server stores of it.
+//! The method `mysql_native_password`: a client shows by an answer to the server's nonce that it
+//! knows a password, of which the server stores a digest of a digest alone.
 //!
 //! **The answer of a password is right for what is stored of that password and for the nonce that
 //! was asked, and [`right`] is the protocol's test and no other.**
@@ -24,12 +24,6 @@ ghost use Rattle.native_scramble.specs.Native.{IsNativeText, is_upper_hex_digit,
 use hex::FromHex;
 use sha1::Sha1;
 
-/// The length in bytes of a SHA-1 digest, of a nonce and of an answer.
-const DIGEST_LEN: usize = 20;
-
-/// The length in bytes of the stored text.
-const TEXT_LEN: usize = 41;
-
 /// What the server stores of a password: SHA1(SHA1(password)).
 pub fn stage2(password: &[u8]) -> [u8; 20]
     ensures { result ≡ native_stage2 password.now }
@@ -49,7 +43,8 @@ pub fn respond(password: &[u8], nonce: &[u8; 20]) -> [u8; 20]
 /// SHA1(response XOR SHA1(nonce <concat> stage2)) = stage2.
 pub fn right(stage2: &[u8; 20], nonce: &[u8; 20], response: &[u8; 20]) -> bool
     ensures test { result ≡ native_right stage2.now nonce.now response.now }
-    ensures equation { IsTrue result ↔ (sha1 (xor_bytes response.now (sha1 (nonce.now ++ stage2.now))) ≡ stage2.now) }
+    ensures equation { IsTrue result
+        ↔ (sha1 (xor_bytes response.now (sha1 (nonce.now ++ stage2.now))) ≡ stage2.now) }
 {
     let hidden = xor(response, &mask(nonce, stage2));
     Sha1::digest(&hidden) == *stage2
@@ -59,7 +54,7 @@ pub fn right(stage2: &[u8; 20], nonce: &[u8; 20], response: &[u8; 20]) -> bool
 pub fn write_stored(stage2: &[u8; 20]) -> [u8; 41]
     ensures { result ≡ native_text stage2.now }
 {
-    let mut text = [b'*'; TEXT_LEN];
+    let mut text = [b'*'; 41];
     hex::encode_to_slice(stage2.as_slice(), &mut text[1..]).unwrap();
     text.make_ascii_uppercase();
     text
@@ -79,7 +74,7 @@ pub fn read_stored(text: &[u8]) -> Option<[u8; 20]>
     if !are_upper_hex_digits(digits) {
         return None;
     }
-    <[u8; DIGEST_LEN] as FromHex>::from_hex(digits).ok()
+    <[u8; 20] as FromHex>::from_hex(digits).ok()
 }
 
 /// Whether each byte is one of `0` to `9` and `A` to `F`.

@@ -31,7 +31,8 @@ fn answers_are_those_of_the_vectors(rt: HostRuntime) {
     ] {
         let given = respond(password, nonce);
         assert_eq!(rt; write_stored(&given), *answer);
-        assert!(rt; right(&stage2(password), nonce, &given));
+        let accepted = right(&stage2(password), nonce, &given);
+        assert!(rt; accepted);
     }
 }
 
