@@ -1,0 +1,9 @@
+use Rattle.std.proofs.Common.{◌≡◌, take, length}
+use Rattle.sha256_crypt.specs.Crypt.{copies}
+use Rattle.sha256_crypt.proofs.stretched.Given as goal
+
+abbrev pub invariant-loop-i : goal.invariant-loop-i
+invariant-loop-i g l = record {
+  filled : take l.i l.bytes ≡ take l.i (copies l.length l.digest);
+  length_kept : length l.bytes ≡ length l.initial.bytes;
+}
