@@ -30,14 +30,14 @@ get_or-copies zero digest i wide below = absurd (omega arith)
 get_or-copies (suc n) digest i wide below =
     let long = length-copies n digest wide in
     rw (copies-suc n digest)
-      (⊎_elim
-        (λ (inside : i < n * 32).
-          let inside' : i < length (copies n digest) = omega arith in
-          get_or_append_left (copies n digest) digest 0 i inside' ∙ get_or-copies n digest i wide inside)
-        (λ (past : n * 32 ≤ i).
-          let place : i % 32 ≡ i - n * 32 = omega arith in
-          get_or-append_right (copies n digest) digest (n * 32) i 0 long past ∙ ap (λ k. get_or digest k 0) (sym place))
-        (cases_lt i (n * 32)))
+    (⊎_elim
+    (λ (inside : i < n * 32).
+    let inside' : i < length (copies n digest) = omega arith in
+    get_or_append_left (copies n digest) digest 0 i inside' ∙ get_or-copies n digest i wide inside)
+    (λ (past : n * 32 ≤ i).
+    let place : i % 32 ≡ i - n * 32 = omega arith in
+    get_or-append_right (copies n digest) digest (n * 32) i 0 long past ∙ ap (λ k. get_or digest k 0) (sym place))
+    (cases_lt i (n * 32)))
 
 -- a digest repeated is whole digests and the beginning of one
 pub take-copies : (n : ℕ) (digest : List ℕ) → length digest ≡ 32
@@ -50,19 +50,19 @@ take-copies n digest wide =
     let left_long : length (take n (copies n digest)) ≡ n = length-take-le n (copies n digest) enough in
     let whole_long : length (copies q digest) ≡ q * 32 = length-copies q digest wide in
     let right_long : length (copies q digest ++ take r digest) ≡ n =
-      omega (arith, length-append (copies q digest) (take r digest), length-take-le r digest short) in
+    omega (arith, length-append (copies q digest) (take r digest), length-take-le r digest short) in
     ext_get_or 0 (take n (copies n digest)) (copies q digest ++ take r digest) (left_long ∙ sym right_long)
-      (λ i below.
-        let within : i < n = omega arith in
-        let left : get_or (take n (copies n digest)) i 0 ≡ get_or digest (i % 32) 0 =
-          get_or-take n (copies n digest) i 0 within ∙ get_or-copies n digest i wide (omega arith) in
-        left ∙ sym (⊎_elim
-          (λ (inside : i < q * 32).
-            let inside' : i < length (copies q digest) = omega arith in
-            get_or_append_left (copies q digest) (take r digest) 0 i inside' ∙ get_or-copies q digest i wide inside)
-          (λ (past : q * 32 ≤ i).
-            let place : i % 32 ≡ i - q * 32 = omega arith in
-            get_or-append_right (copies q digest) (take r digest) (q * 32) i 0 whole_long past
-            ∙ get_or-take r digest (i - q * 32) 0 (omega arith)
-            ∙ ap (λ k. get_or digest k 0) (sym place))
-          (cases_lt i (q * 32))))
+    (λ i below.
+    let within : i < n = omega arith in
+    let left : get_or (take n (copies n digest)) i 0 ≡ get_or digest (i % 32) 0 =
+    get_or-take n (copies n digest) i 0 within ∙ get_or-copies n digest i wide (omega arith) in
+    left ∙ sym (⊎_elim
+    (λ (inside : i < q * 32).
+    let inside' : i < length (copies q digest) = omega arith in
+    get_or_append_left (copies q digest) (take r digest) 0 i inside' ∙ get_or-copies q digest i wide inside)
+    (λ (past : q * 32 ≤ i).
+    let place : i % 32 ≡ i - q * 32 = omega arith in
+    get_or-append_right (copies q digest) (take r digest) (q * 32) i 0 whole_long past
+    ∙ get_or-take r digest (i - q * 32) 0 (omega arith)
+    ∙ ap (λ k. get_or digest k 0) (sym place))
+    (cases_lt i (q * 32))))

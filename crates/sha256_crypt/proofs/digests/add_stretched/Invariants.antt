@@ -1,7 +1,7 @@
 use Rattle.std.proofs.Common.{ℕ, List, ◌++◌}
 use Rattle.sha2.specs.Hashers.{Holds256}
 use Rattle.sha256_crypt.specs.Crypt.{copies}
-use Rattle.sha256_crypt.proofs.add_stretched.Given as goal
+use Rattle.sha256_crypt.proofs.digests.add_stretched.Given as goal
 
 abbrev pub invariant-loop : goal.invariant-loop
 invariant-loop l =

@@ -1,6 +1,6 @@
 use Rattle.std.proofs.Common.{◌≡◌, take, length}
 use Rattle.sha256_crypt.specs.Crypt.{copies}
-use Rattle.sha256_crypt.proofs.stretched.Given as goal
+use Rattle.sha256_crypt.proofs.digests.stretched.Given as goal
 
 abbrev pub invariant-loop-i : goal.invariant-loop-i
 invariant-loop-i g l = record {

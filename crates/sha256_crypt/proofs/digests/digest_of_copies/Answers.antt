@@ -1,5 +1,5 @@
 use Rattle.sha256_crypt.proofs.Copies.{copies-zero, copies-more}
-use Rattle.sha256_crypt.proofs.digest_of_copies.Goals as goal
+use Rattle.sha256_crypt.proofs.digests.digest_of_copies.Goals as goal
 
 pub loop-i-init : goal.loop-i-init
 loop-i-init c = rw (copies-zero c.args.text.now) c.new-hasher.ensures

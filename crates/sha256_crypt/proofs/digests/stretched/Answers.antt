@@ -2,7 +2,7 @@ use Rattle.std.proofs.Common.{◌≡◌, ℕ, ◌+◌, ◌*◌, ◌%◌, ◌<◌
 use Rattle.std.proofs.lemmas.List.{take_more, take_more_set, length-replicate, length-set}
 use Rattle.sha256_crypt.specs.Crypt.{copies}
 use Rattle.sha256_crypt.proofs.Copies.{length-copies, get_or-copies}
-use Rattle.sha256_crypt.proofs.stretched.Goals as goal
+use Rattle.sha256_crypt.proofs.digests.stretched.Goals as goal
 
 pub loop-i-preserved : goal.loop-i-preserved
 loop-i-preserved g c =
@@ -13,10 +13,14 @@ loop-i-preserved g c =
     let room : i < length bytes = omega (arith, length-replicate {A = ℕ} g.row.N 0) in
     let within : i < c.args.length * 32 = omega arith in
     let repeated : i < length (copies c.args.length digest) =
-      omega (arith, length-copies c.args.length digest c.told-digest) in
+    omega (arith, length-copies c.args.length digest c.told-digest) in
     record {
       filled =
-        rw (take_more_set bytes i byte room, take_more (copies c.args.length digest) i 0 repeated,
-            get_or-copies c.args.length digest i c.told-digest within, c.loop-i.invariant.filled) refl;
+          rw (
+            take_more_set bytes i byte room,
+            take_more (copies c.args.length digest) i 0 repeated,
+            get_or-copies c.args.length digest i c.told-digest within,
+            c.loop-i.invariant.filled,
+          ) refl;
       length_kept = length-set bytes i byte ∙ c.loop-i.invariant.length_kept;
     }
