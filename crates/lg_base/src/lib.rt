@@ -8,12 +8,16 @@
 
 pub mod allocation;
 pub mod byte_list;
+pub mod errors;
+pub mod input;
 pub mod item_list;
 pub mod names;
 pub mod output;
 
 pub use allocation::Memory;
 pub use byte_list::Bytes;
+pub use errors::{Code, Operation};
+pub use input::{ReadFault, Reader};
 pub use item_list::Items;
 pub use names::{Host, Name};
 pub use output::Out;

@@ -33,6 +33,18 @@ impl Out {
         }
     }
 
+    /// The allocator whose memory holds the bytes.
+    pub fn allocator(&self) -> Global {
+        *self.written.allocator()
+    }
+
+    /// No bytes yet, on the same memory.
+    pub fn beside(&self) -> Out
+        ensures { result ≡ [] }
+    {
+        Out::new(self.allocator())
+    }
+
     /// Adds `text` at the end.
     pub fn bytes(&mut self, text: &[u8]) -> Result<(), Memory>
         ensures ok { OnOk result (self.new ≡ self.old ++ text.now) }
