@@ -28,7 +28,7 @@ abbrev pub is_over : LockRule → Option ℕ → ℕ → Bool
 is_over rule None now = false
 is_over rule (Some set) now = has_ended rule.time set now
 
--- a lock is in force
+-- a lock is in force: the rule tracks, one was set, and it hasn't ended
 abbrev pub is_blocked : LockRule → Option ℕ → ℕ → Bool
 is_blocked rule None now = false
 is_blocked rule (Some set) now = tracks rule && not (has_ended rule.time set now)

@@ -84,7 +84,7 @@ impl Tally {
         }
     }
 
-    /// Whether a lock is in force.
+    /// Whether a lock is in force: the rule tracks, a lock was set, and it hasn't ended.
     pub fn blocked(&self, rule: &LockRule, now: u64) -> bool
         ensures { result ≡ is_blocked rule.now self.now.locked now }
     {
@@ -94,7 +94,9 @@ impl Tally {
         }
     }
 
-    /// Counts a failure, and says whether that sets the lock.
+    /// Counts a failure, and says whether the count thereby reaches the limit, which sets the lock
+    /// at that moment. It is for a rule that tracks, where no lock is set and the count is below the
+    /// limit.
     pub fn fail(&mut self, rule: &LockRule, now: u64) -> bool
         requires tracks { IsTrue (tracks rule.now) }
         requires unlocked { self.old.locked ≡ None }
@@ -132,7 +134,8 @@ impl Tally {
         *self = Tally::new();
     }
 
-    /// The days until the lock ends, a begun one counted whole.
+    /// The days until the lock ends, a begun one counted whole. It is for a lock of a number of
+    /// days that is in force and was set at no later moment.
     pub fn left(&self, rule: &LockRule, now: u64) -> u32
         requires blocked { IsTrue (is_blocked rule.now self.now.locked now) }
         requires days { rule.now.time ≢ LockTime.Unbounded }
@@ -164,9 +167,9 @@ impl Tally {
         }
     }
 
-    /// Takes in one attempt: a lock that has ended is forgotten first; then an attempt that opened
-    /// clears the tally, and one that didn't verify is counted where the rule tracks and no lock is
-    /// in force.
+    /// Takes in one attempt at a moment. A lock that has ended is forgotten first. Then an attempt
+    /// that opened a session clears the tally, and one that didn't verify is counted where the rule
+    /// tracks and no lock is in force. The tally is one that these calls made by the same rule.
     pub fn settle(&mut self, rule: &LockRule, opened: bool, verified: bool, now: u64)
         requires { IsTally rule.now self.old }
         ensures step { (failures : List ℕ) → self.old ≡ tally_of rule.now failures
