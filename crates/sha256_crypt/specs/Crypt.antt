@@ -1,8 +1,7 @@
 -- SHA-256 crypt as a function on whole lists of bytes, after Ulrich Drepper's public text "Unix crypt
 -- using SHA-256 and SHA-512", whose steps the numbers name. Unlike there, the salt isn't cut to 16
 -- bytes.
-use Rattle.std.specs.Prelude.{◌≡◌, ℕ, zero, suc, ◌+◌, ◌*◌, ◌/◌, ◌%◌, ◌==◌, if◌then◌else◌, List, [], ◌∷◌, ◌++◌, length, take, slice_index}
-use Rattle.std.specs.List.{flat_map}
+use Rattle.std.specs.Prelude.{ℕ, zero, suc, ◌+◌, ◌*◌, ◌/◌, ◌%◌, ◌==◌, if◌then◌else◌, List, [], ◌∷◌, ◌++◌, length, take, slice_index}
 use Rattle.sha2.specs.Sha256.{sha256}
 use Rattle.sha256_crypt.specs.Alphabet.{alphabet}
 

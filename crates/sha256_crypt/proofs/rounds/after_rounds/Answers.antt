@@ -1,6 +1,5 @@
-use Rattle.std.proofs.Common.{◌≡◌, refl, ap, add-one}
-use Rattle.sha2.specs.Sha256.{sha256}
-use Rattle.sha256_crypt.specs.Crypt.{after_rounds, round_message}
+use Rattle.std.proofs.Common.{refl, add-one}
+use Rattle.sha256_crypt.specs.Crypt.{after_rounds}
 use Rattle.sha256_crypt.proofs.rounds.after_rounds.Goals as goal
 
 pub loop-i-init : goal.loop-i-init
