@@ -1,4 +1,4 @@
--- The stored text of a caching_sha2_password account: the characters `$A$`, three upper-case
+-- The stored text of a caching_sha2_password credential: the characters `$A$`, three upper-case
 -- hexadecimal digits of the thousands of rounds from 001 to FFF, `$`, 20 bytes of salt and 43 of sum.
 use Rattle.std.specs.Prelude.{◌≡◌, ℕ, ◌≤◌, ◌/◌, ◌%◌, List, [], ◌∷◌, ◌++◌, length, slice_index, codes}
 use Rattle.std.specs.List.{All}

@@ -1,5 +1,5 @@
-//! The fast answer of caching_sha2_password, after the section "Caching SHA-2 Pluggable
-//! Authentication" of the MySQL protocol documentation.
+//! The fast answer of caching_sha2_password, after the page "Caching_sha2_password information" of
+//! the MySQL protocol documentation.
 
 ghost use Rattle.std.specs.Prelude.{◌≡◌, ◌++◌, IsTrue, ◌↔◌};
 ghost use Rattle.sha2.specs.Sha256.{sha256};
@@ -47,7 +47,8 @@ pub fn fast_response(password: &[u8], nonce: &[u8; 20]) -> [u8; 32]
     xor(&once, &mask(&twice, nonce))
 }
 
-/// Whether the response is the answer of a password with this digest.
+/// Whether the response is right for the digest: `SHA256(response XOR SHA256(digest, nonce))` is the
+/// digest.
 pub fn fast_right(digest: &[u8; 32], nonce: &[u8; 20], response: &[u8; 32]) -> bool
     ensures { IsTrue result ↔ IsFastRight digest.now nonce.now response.now }
 {

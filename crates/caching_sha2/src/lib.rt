@@ -1,5 +1,11 @@
 //! The method caching_sha2_password: the fast answer and its test, and the value that is stored of a
 //! password.
+//!
+//! **`fast_right` is the test of the protocol's documentation, and the answer that `fast_response`
+//! gives for a password passes it with the password's digest** (`specs/Fast.antt`). **A stored value
+//! and its 70 bytes of text determine each other, and `read_stored` answers None exactly where the
+//! text is no value's** (`specs/Stored.antt`). The hash is `sha2`'s, and the alphabet of salts and
+//! sums `sha256_crypt`'s. Nothing here takes memory.
 #![tactic(auto)]
 
 pub use fast::{digest, fast_response, fast_right};
@@ -7,3 +13,5 @@ pub use stored::{Sha2Stored, read_stored, write_stored};
 
 mod fast;
 mod stored;
+#[cfg(test)]
+mod tests;

@@ -1,4 +1,7 @@
-//! What is stored of a password for caching_sha2_password, and its text.
+//! What is stored of a password for caching_sha2_password, and its text of 70 bytes: `$A$`, three
+//! upper-case hexadecimal digits of the thousands of rounds from `001` to `FFF`, `$`, 20 bytes of
+//! salt and 43 of sum. The form is this project's own, and nothing is claimed of what other servers
+//! store.
 
 ghost use Rattle.std.specs.Prelude.{◌≡◌, ℕ, ◌<◌, ◌≤◌, ◌+◌, [], ◌∷◌, ◌++◌, length, take, drop, IfSome};
 ghost use Rattle.std.specs.List.{All};
@@ -8,7 +11,7 @@ ghost use Rattle.caching_sha2.specs.declared.stored.Sha2Stored.{Sha2Stored};
 
 use sha256_crypt::is_salt_byte;
 
-/// A sum of a password under a salt. The rounds are `1000 * thousands`.
+/// The sum of a password under a salt, by `sha256_crypt::crypt` in `1000 * thousands` rounds.
 #[derive(Debug, Clone, Copy, PartialEq, Eq)]
 pub struct Sha2Stored {
     pub thousands: u16,
@@ -81,7 +84,7 @@ fn put(text: &mut [u8; 70], at: usize, bytes: &[u8])
     text[at..at + bytes.len()].copy_from_slice(bytes);
 }
 
-/// The text of a value.
+/// The text of a value, which has from 1 to 4095 thousands, and salt and sum of the alphabet.
 pub fn write_stored(value: &Sha2Stored) -> [u8; 70]
     requires { IsStorable value.now }
     ensures { IsStoredText value.now result }
@@ -97,6 +100,8 @@ pub fn write_stored(value: &Sha2Stored) -> [u8; 70]
 /// The value of a text. None exactly where the text is no value's.
 pub fn read_stored(text: &[u8]) -> Option<Sha2Stored>
     ensures read { IfSome result (λ value. IsStoredText value text.now) }
+
+    // So None comes only where the text is no value's, and no text is two values'.
     ensures found { (value : Sha2Stored) → IsStoredText value text.now → result ≡ Some value }
 {
     let [b'$', b'A', b'$', high, middle, low, b'$', rest @ ..] = text else {

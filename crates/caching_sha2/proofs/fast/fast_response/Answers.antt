@@ -1,6 +1,6 @@
-use Rattle.std.proofs.Common.{◌≡◌, ℕ, List, ◌++◌, ap, sym, ◌∙◌, refl, arith, length}
+use Rattle.std.proofs.Common.{◌≡◌, ℕ, List, ◌++◌, sym, arith, length}
 use Rattle.sha2.specs.Sha256.{sha256}
-use Rattle.caching_sha2.specs.Fast.{xor, digest_of, IsFastRight}
+use Rattle.caching_sha2.specs.Fast.{xor, IsFastRight}
 use Rattle.caching_sha2.proofs.Xor.{xor-twice}
 use Rattle.caching_sha2.proofs.fast.fast_response.Goals as goal
 

@@ -1,5 +1,4 @@
 use Rattle.std.proofs.Common.{◌≡◌, ℕ, ◌+◌, ◌*◌, ◌/◌, ◌%◌, refl, arith}
-use Rattle.caching_sha2.specs.Stored.{hex_digit}
 use Rattle.caching_sha2.proofs.stored.read_thousands.Goals as goal
 
 pub returns-else-number-eq0-clause-read : goal.returns-else-number-eq0-clause-read
