@@ -1,0 +1,9 @@
+pub mod Laws
+pub mod Joined
+pub mod Numbers
+pub mod OneByte
+pub mod Names
+pub mod Made
+pub mod Whole
+pub mod Lenenc
+pub mod Payloads
