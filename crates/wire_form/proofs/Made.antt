@@ -1,12 +1,13 @@
 -- The laws of fields that are made of one other: of another value, optional, or one of two.
-use Rattle.std.proofs.Common.{◌≡◌, ℕ, ◌+◌, ◌<◌, ◌⊎◌, Bool, true, false, List, [], ◌∷◌, ◌++◌, length, All, Option, Some, None, IsSomeAnd, Result, Ok, Err, refl, sym, ap, ◌∙◌, subst, ⊎_elim, add-zero, arith, rules}
+use Rattle.std.proofs.Common.{◌≡◌, ℕ, ◌+◌, ◌<◌, ◌⊎◌, Bool, true, false, List, [], ◌∷◌, ◌++◌, length, All, Option, Some, None, IsSomeAnd, Result, Ok, Err, refl, sym, ap, ◌∙◌, subst, ⊎_elim, add-zero, eq-eqb, ◌==◌, arith, rules}
 use Rattle.std.proofs.lemmas.List.Elements.{All-nil}
 use Rattle.lg_base.specs.Reading.{Cursor}
-use Rattle.wire_form.specs.Fields.{Found, Field, and_then, made, chosen, optional, counted, follow, bytes}
+use Rattle.wire_form.specs.Fields.{Found, Field, and_then, made, chosen, optional, counted, follow, ◌▸◌, bytes, byte, mark, skipped}
 use Rattle.wire_form.specs.Payloads.{Begins}
 use Rattle.wire_form.proofs.Laws.{FoundAt, StopsAt, IsField}
 use Rattle.wire_form.proofs.Joined.{found_as, same_found, not_found, and_then_ok, and_then_err, follow-lawful}
 use Rattle.wire_form.proofs.Numbers.{bytes-lawful, failed_at}
+use Rattle.wire_form.proofs.OneByte.{byte-lawful}
 
 -- Another spelling relation that holds where the first one does, stops at the same place.
 pub stops_as : {A B : Type 0} (S : A → List ℕ → Type 0) (R : B → List ℕ → Type 0) (to : (text : List ℕ) → (a : A) → S a text → (b : B) × R b text)
@@ -47,6 +48,15 @@ module _ {A B : Type 0} (to : A → B) (from : B → A) (f : Field A) (is : IsFi
           let t = is.found c p.1 p.0 p.2 in
           subst (λ (d : Cursor). FoundAt (made to from f).Spells c d b) same.1
           (record { text = t.text; spelled = (p.0, t.spelled, same.0); split = t.split; place = t.place })
+
+pub mark-lawful : (b : ℕ) → b < 256 → IsField (mark b)
+mark-lawful b small = made-lawful (λ _. tt) (λ _. b) (byte (λ x. x == b)) (byte-lawful (λ x. x == b) b small (eq-eqb b b refl))
+
+pub skipped-lawful : (size : ℕ) (filler : List ℕ) → IsField (skipped size filler)
+skipped-lawful size filler = made-lawful (λ _. tt) (λ _. filler) (bytes size) (bytes-lawful size)
+
+pub ▸-lawful : {A B : Type 0} (f : Field A) (g : Field B) → IsField f → IsField g → IsField (f ▸ g)
+▸-lawful f g is are = follow-lawful f (λ _. g) is (λ _. are)
 
 pub counted-lawful : (f : Field ℕ) → IsField f → IsField (counted f)
 counted-lawful f is = made-lawful (λ v. v.1) (λ v. (length v, v)) (follow f bytes) (follow-lawful f bytes is bytes-lawful)

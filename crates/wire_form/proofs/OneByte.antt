@@ -1,9 +1,9 @@
 -- One byte that passes a test: how it is read, and its laws.
-use Rattle.std.proofs.Common.{◌≡◌, ℕ, ◌+◌, ◌*◌, ◌<◌, ◌≤◌, ◌⊎◌, Bool, true, false, cond, List, [], ◌∷◌, ◌++◌, length, All, IsTrue, Result, Ok, Err, refl, sym, ap, ◌∙◌, subst, ⊎_elim, add-zero, arith, rules, eq-eqb, ◌==◌}
+use Rattle.std.proofs.Common.{◌≡◌, ℕ, ◌+◌, ◌*◌, ◌<◌, ◌≤◌, ◌⊎◌, Bool, true, false, cond, List, [], ◌∷◌, ◌++◌, length, All, IsTrue, Result, Ok, Err, refl, sym, ap, ◌∙◌, subst, ⊎_elim, add-zero, arith, rules}
 use Rattle.std.proofs.lemmas.List.Elements.{All-nil, All-cons}
 use Rattle.lg_base.specs.Fields.{little}
 use Rattle.lg_base.specs.Reading.{Cursor, Read, number_at, behind, short}
-use Rattle.wire_form.specs.Fields.{Found, Field, placed, and_then, byte, mark}
+use Rattle.wire_form.specs.Fields.{Found, Field, placed, and_then, byte}
 use Rattle.wire_form.specs.Payloads.{Begins}
 use Rattle.wire_form.proofs.Laws.{FoundAt, StopsAt, IsField}
 use Rattle.wire_form.proofs.Joined.{found_as, same_found, not_found}
@@ -75,6 +75,3 @@ module _ (test : ℕ → Bool) where
           let p = failed_test (test x) at x n xs (sym (byte-cons at x xs) ∙ e) in
           record { front = []; back = x ∷ xs; split = refl; place = omega (arith, p.1); begins = sampled;
             no_further = λ b bs same a more s. refused x b a bs more xs p.0 same s.0 s.1 }
-
-pub mark-lawful : (b : ℕ) → b < 256 → IsField (mark b)
-mark-lawful b small = byte-lawful (λ x. x == b) b small (eq-eqb b b refl)

@@ -3,10 +3,10 @@ use Rattle.std.proofs.Common.{◌≡◌, ℕ, ◌+◌, ◌<◌, ◌⊎◌, Bool,
 use Rattle.std.proofs.lemmas.List.Elements.{All-nil, All-cons}
 use Rattle.lg_base.specs.Reading.{Cursor, Read, text_at, short}
 use Rattle.wire_form.specs.Fields.{Found, Field, and_then, map_found}
-use Rattle.wire_form.specs.Forms.{Form, rest, nothing, nothing_at, whole, last_name, name_then, first, by_first, either}
+use Rattle.wire_form.specs.Forms.{Form, ◌▹◌, rest, nothing, nothing_at, whole, last_name, name_then, first, by_first, either}
 use Rattle.wire_form.specs.Payloads.{Begins}
-use Rattle.wire_form.proofs.Laws.{StopsAt, IsForm}
-use Rattle.wire_form.proofs.Joined.{map_found_ok, map_found_err}
+use Rattle.wire_form.proofs.Laws.{StopsAt, IsField, IsForm}
+use Rattle.wire_form.proofs.Joined.{map_found_ok, map_found_err, lead-lawful}
 use Rattle.wire_form.proofs.Made.{stops_as}
 use Rattle.wire_form.proofs.Names.{HasNoZero, empty, longer, FirstZero, at_zero, nowhere, first_zero, no_zero, none_of, text_at-found, text_at-none}
 
@@ -69,6 +69,9 @@ module _ {A B : Type 0} (to : A → B) (from : B → A) (f : Form A) (is : IsFor
       begun p = (to p.0, p.1, p.2, (p.0, p.3, refl))
       found_in : (c : Cursor) (b : B) → ((a : A) × (f.read c ≡ Ok a) × (to a ≡ b)) → (whole to from f).Spells b c.rest
       found_in c b p = (p.0, is.found c p.0 p.1, p.2)
+
+pub ▹-lawful : {A B : Type 0} (f : Field A) (g : Form B) → IsField f → IsForm g → IsForm (f ▹ g)
+▹-lawful f g is are = lead-lawful f (λ _. g) is (λ _. are)
 
 pub either-lawful : {A : Type 0} (b : Bool) (f g : Form A) → IsForm f → IsForm g → IsForm (either b f g)
 either-lawful true f g one two = one

@@ -55,10 +55,6 @@ byte test = record {
   Fits = λ b. IsTrue (test b);
   write = λ b. b ∷ [] }
 
--- this very byte
-abbrev pub mark : ℕ → Field ℕ
-mark b = byte (λ x. x == b)
-
 -- so many bytes, whatever they are
 abbrev pub bytes : ℕ → Field (List ℕ)
 bytes size = record {
@@ -114,6 +110,14 @@ made {A} to from f = record {
   read = λ c. and_then (f.read c) (λ a next. Ok (to a, next));
   Fits = λ b. f.Fits (from b) × (to (from b) ≡ b);
   write = λ b. f.write (from b) }
+
+-- this very byte, which tells nothing
+abbrev pub mark : ℕ → Field (Unit {0})
+mark b = made (λ _. tt) (λ _. b) (byte (λ x. x == b))
+
+-- so many bytes that aren't examined; these are written
+abbrev pub skipped : ℕ → List ℕ → Field (Unit {0})
+skipped size filler = made (λ _. tt) (λ _. filler) (bytes size)
 
 -- bytes behind their length
 abbrev pub counted : Field ℕ → Field (List ℕ)

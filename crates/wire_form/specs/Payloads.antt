@@ -31,11 +31,14 @@ pub record IsReadAs {A E : Type 0} (fault_of : E → Option ℕ) (Spells : A →
 abbrev pub start : List ℕ → Cursor
 start payload = record { at = 0; rest = payload }
 
--- A call answers what reading finds. Its error has the place of the fault; one without a place says
+-- A call answers what reading finds, seen by view. Its error has the place of the fault; one without a place says
 -- nothing of the payload.
+abbrev pub GivesAs : {A X E : Type 0} → (X → A) → (E → Option ℕ) → Result X E → Result A ℕ → Type 0
+GivesAs view fault_of (Ok x) found = found ≡ Ok (view x)
+GivesAs view fault_of (Err e) found = IfSome (fault_of e) (λ at. found ≡ Err at)
+
 abbrev pub Gives : {A E : Type 0} → (E → Option ℕ) → Result A E → Result A ℕ → Type 0
-Gives fault_of (Ok a) found = found ≡ Ok a
-Gives fault_of (Err e) found = IfSome (fault_of e) (λ at. found ≡ Err at)
+Gives fault_of result found = GivesAs (λ x. x) fault_of result found
 
 -- the same of a field, behind which the cursor then stands
 abbrev pub Steps : {A X E : Type 0} → (X → A) → (E → Option ℕ) → Cursor → Result X E → Found A → Type 0

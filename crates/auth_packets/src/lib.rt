@@ -1,0 +1,15 @@
+//! The messages of a login: each is read from a payload exactly where the payload spells one, and what is
+//! written is read back as the same message.
+//!
+//! The layouts are those of "Connection Phase Packets", "Generic Response Packets" and "Command Phase" of
+//! the MySQL client/server protocol documentation. The definitions in specs/ state them in the grammar of
+//! `wire_form`; framing is below, and what the messages mean to a session is above.
+#![tactic(auto)]
+
+pub mod fault;
+mod fields;
+pub mod flags;
+pub mod handshake;
+
+pub use fault::PacketFault;
+pub use handshake::{Greeting, Response};
