@@ -92,5 +92,5 @@ response-lawful = whole-lawful _ _ _ (lead-lawful _ _ client-lawful (λ c. ▹-l
 
 -- a call that answers what the form's reader finds, reads a response
 pub response_read : (payload : List ℕ) (result : Result Response PacketFault) →
-  Gives malformed_at result (response.read (start payload)) → IsReadAs malformed_at response.Spells payload result
+    Gives malformed_at result (response.read (start payload)) → IsReadAs malformed_at response.Spells payload result
 response_read = read_as response response-lawful malformed_at

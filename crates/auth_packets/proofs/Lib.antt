@@ -1,1 +1,3 @@
 pub mod HandshakeLaws
+pub mod RepliesLaws
+pub mod Written

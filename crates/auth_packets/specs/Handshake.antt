@@ -49,14 +49,20 @@ greeting_of p = record {
   flags = p.1.0.0 + 65536 * p.1.0.1.1.1;
   charset = p.1.0.1.0;
   status = p.1.0.1.1.0;
-  plugin = p.1.1.1.0 }
+  plugin = p.1.1.1.0;
+}
 
 abbrev pub greeting_parts : Greeting → GreetingParts
-greeting_parts g =
-  ((tt, (g.version, (g.id, (take 8 g.nonce, tt)))),
-  ((g.flags % 65536, (g.charset, (g.status, g.flags / 65536))),
-  (((21, tt), (drop 8 g.nonce, tt)),
-  (g.plugin, tt))))
+greeting_parts g = (
+  (tt, (g.version, (g.id, (take 8 g.nonce, tt)))),
+  (
+    (g.flags % 65536, (g.charset, (g.status, g.flags / 65536))),
+    (
+      ((21, tt), (drop 8 g.nonce, tt)),
+      (g.plugin, tt),
+    ),
+  ),
+)
 
 unfoldable pub greeting : Form Greeting
 greeting = whole greeting_of greeting_parts (opening ▹ session ▹ nonce ▹ last_name nothing tt)
@@ -119,13 +125,17 @@ response_of p = record {
   database = p.1.0.1.0;
   plugin = p.1.0.1.1;
   attributes = p.1.1.0;
-  rest = p.1.1.1 }
+  rest = p.1.1.1;
+}
 
 abbrev pub response_parts : Response → ResponseParts
-response_parts r =
-  ((r.flags, (r.max_packet, (r.charset, (tt, r.user)))),
-  ((r.auth, (r.database, r.plugin)),
-  (r.attributes, r.rest)))
+response_parts r = (
+  (r.flags, (r.max_packet, (r.charset, (tt, r.user)))),
+  (
+    (r.auth, (r.database, r.plugin)),
+    (r.attributes, r.rest),
+  ),
+)
 
 unfoldable pub response : Form Response
 response = whole response_of response_parts (lead client (λ c. claim c.0 ▹ extras c.0))

@@ -2,15 +2,18 @@
 //! response ("Protocol::HandshakeResponse41").
 
 ghost use Rattle.auth_packets.specs.Faults.{malformed_at};
-ghost use Rattle.auth_packets.specs.Handshake.{answer, claim, client, database, extras, response};
+ghost use Rattle.auth_packets.specs.Handshake.{IsWholeGreeting, answer, claim, client, database, extras, greeting, greeting_text, nonce_text, opening_text, response, session_text};
+ghost use Rattle.std.specs.Prelude.{◌≡◌, ◌↔◌, ◌++◌, Contains, IsTrue, OnOk, OnErr};
 ghost use Rattle.wire_form.specs.Payloads.{Gives, GivesAs, IsReadAs, Steps, start};
 
 use crate::fault::PacketFault;
-use crate::fields::{read_counted, read_name, read_optional_counted, read_optional_name};
-use crate::flags::{
-    CONNECT_ATTRS, CONNECT_WITH_DB, PLUGIN_AUTH_LENENC_CLIENT_DATA, is_set, read_flags,
+use crate::fields::{
+    has_no_zero, read_counted, read_name, read_optional_counted, read_optional_name,
 };
-use lg_base::{Bytes, Reader};
+use crate::flags::{
+    CONNECT_ATTRS, CONNECT_WITH_DB, PLUGIN_AUTH_LENENC_CLIENT_DATA, has_needed, is_set, read_flags,
+};
+use lg_base::{Bytes, Memory, Out, Reader};
 use std::alloc::Global;
 
 /// What a server says first.
@@ -50,6 +53,83 @@ pub struct Response {
     pub attributes: Option<Bytes>,
     /// The bytes behind the last field.
     pub rest: Bytes,
+}
+
+impl Greeting {
+    /// Whether the fields fit the layout: no 00 in the texts, and the flags that both ends need.
+    pub fn is_whole(&self) -> bool
+        ensures { IsTrue result ↔ IsWholeGreeting self.now }
+    {
+        if !has_no_zero(self.version.as_slice()) {
+            return false;
+        }
+        if !has_needed(self.flags) {
+            return false;
+        }
+        has_no_zero(self.plugin.as_slice())
+    }
+
+    /// Adds the payload of the greeting. After `Memory` nothing was added.
+    #[tactic(auto, using(crate::proofs::Written::greeting_spelled))]
+    pub fn write(&self, out: &mut Out) -> Result<(), Memory>
+        requires { IsWholeGreeting self.now }
+        ensures ok { OnOk result (out.new ≡ out.old ++ greeting_text self.now) }
+        ensures err { OnErr result (out.new ≡ out.old) }
+        ensures spelled { greeting.Spells self.now (greeting_text self.now) }
+    {
+        let _id = self.id;
+        let _flags = self.flags;
+        let _charset = self.charset;
+        let _status = self.status;
+        let mut text = out.beside();
+        write_greeting(self, &mut text)?;
+        out.bytes(text.as_slice())
+    }
+}
+
+#[tactic(auto, unfolding(crate::specs::Handshake::opening_text))]
+fn write_opening(greeting: &Greeting, out: &mut Out) -> Result<(), Memory>
+    requires { ¬ Contains greeting.now.version 0 }
+    ensures { OnOk result (out.new ≡ out.old ++ opening_text greeting.now) }
+{
+    let (first, _) = greeting.nonce.split_at(8);
+    out.byte(0x0a)?;
+    out.nul_text(greeting.version.as_slice())?;
+    out.write_u32(greeting.id)?;
+    out.bytes(first)?;
+    out.byte(0)
+}
+
+#[tactic(auto, unfolding(crate::specs::Handshake::session_text))]
+fn write_session(greeting: &Greeting, out: &mut Out) -> Result<(), Memory>
+    ensures { OnOk result (out.new ≡ out.old ++ session_text greeting.now) }
+{
+    out.write_u16((greeting.flags % 0x1_0000) as u16)?;
+    out.byte(greeting.charset)?;
+    out.write_u16(greeting.status)?;
+    out.write_u16((greeting.flags / 0x1_0000) as u16)
+}
+
+#[tactic(auto, unfolding(crate::specs::Handshake::nonce_text))]
+fn write_nonce(greeting: &Greeting, out: &mut Out) -> Result<(), Memory>
+    ensures { OnOk result (out.new ≡ out.old ++ nonce_text greeting.now) }
+{
+    let (_, second) = greeting.nonce.split_at(8);
+    out.byte(21)?;
+    out.bytes(&[0; 10])?;
+    out.bytes(second)?;
+    out.byte(0)
+}
+
+#[tactic(auto, unfolding(crate::specs::Handshake::greeting_text))]
+fn write_greeting(greeting: &Greeting, out: &mut Out) -> Result<(), Memory>
+    requires { IsWholeGreeting greeting.now }
+    ensures { OnOk result (out.new ≡ out.old ++ greeting_text greeting.now) }
+{
+    write_opening(greeting, out)?;
+    write_session(greeting, out)?;
+    write_nonce(greeting, out)?;
+    out.nul_text(greeting.plugin.as_slice())
 }
 
 impl Response {

@@ -10,6 +10,8 @@ pub mod fault;
 mod fields;
 pub mod flags;
 pub mod handshake;
+pub mod replies;
 
 pub use fault::PacketFault;
 pub use handshake::{Greeting, Response};
+pub use replies::{EofPacket, ErrPacket, OkPacket};

@@ -11,6 +11,11 @@ pub record Cursor : Type 0 where
   pub at : ℕ
   pub rest : List ℕ
 
+-- the first byte of a list, if there is one
+abbrev pub first : List ℕ → Option ℕ
+first [] = None
+first (b ∷ bytes) = Some b
+
 -- what a reader of values A answers
 abbrev pub Read : Type 0 → Type 0
 Read A = Result (A × Cursor) ReadFault

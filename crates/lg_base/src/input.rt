@@ -33,8 +33,8 @@ impl<'a> Model for Reader<'a> {
 }
 
 impl<'a> Reader<'a> {
-    ghost use Rattle.lg_base.specs.Reading.{Takes, bytes_at, lenenc_at, number_at, short, text_at};
-    ghost use Rattle.std.specs.Prelude.{◌≡◌, ◌+◌, ◌↔◌, [], length, IsTrue};
+    ghost use Rattle.lg_base.specs.Reading.{Takes, bytes_at, first, lenenc_at, number_at, short, text_at};
+    ghost use Rattle.std.specs.Prelude.{◌≡◌, ◌+◌, [], length};
 
     /// A cursor at the first byte.
     pub fn new(bytes: &'a [u8]) -> Reader<'a>
@@ -50,11 +50,14 @@ impl<'a> Reader<'a> {
         self.at
     }
 
-    /// Whether no byte is left.
-    pub fn is_at_end(&self) -> bool
-        ensures { IsTrue result ↔ (self.now.rest ≡ []) }
+    /// The next byte, which stays where it is, or that none is left.
+    pub fn peek(&self) -> Option<u8>
+        ensures { result ≡ first self.now.rest }
     {
-        self.rest.is_empty()
+        match self.rest {
+            [] => None,
+            [x, ..] => Some(*x),
+        }
     }
 
     /// The next `n` bytes.

@@ -9,12 +9,12 @@ use Rattle.wire_form.specs.Payloads.{Begins}
 use Rattle.wire_form.proofs.Laws.{FoundAt, StopsAt, IsField, IsForm}
 
 pub and_then_ok : {A B : Type 0} (r : Found A) (k : A → Cursor → Result B ℕ) (y : B) → and_then r k ≡ Ok y →
-  (a : A) × (next : Cursor) × (r ≡ Ok (a, next)) × (k a next ≡ Ok y)
+    (a : A) × (next : Cursor) × (r ≡ Ok (a, next)) × (k a next ≡ Ok y)
 and_then_ok (Ok x) k y e = (x.0, x.1, refl, e)
 and_then_ok (Err n) k y e = absurd cc
 
 pub and_then_err : {A B : Type 0} (r : Found A) (k : A → Cursor → Result B ℕ) (n : ℕ) → and_then r k ≡ Err n →
-  (r ≡ Err n) ⊎ ((a : A) × (next : Cursor) × (r ≡ Ok (a, next)) × (k a next ≡ Err n))
+    (r ≡ Err n) ⊎ ((a : A) × (next : Cursor) × (r ≡ Ok (a, next)) × (k a next ≡ Err n))
 and_then_err (Ok x) k n e = inr (x.0, x.1, refl, e)
 and_then_err (Err m) k n e = inl cc
 
@@ -40,7 +40,7 @@ not_found v c n e = cc
 
 -- where a list is cut in two ways, the second front passes the byte, or ends before it
 apart : (u w x y : List ℕ) (b : ℕ) → u ++ b ∷ w ≡ x ++ y →
-  ((m : List ℕ) × (x ≡ u ++ b ∷ m)) ⊎ ((m : List ℕ) × (u ≡ x ++ m))
+    ((m : List ℕ) × (x ≡ u ++ b ∷ m)) ⊎ ((m : List ℕ) × (u ≡ x ++ m))
 apart [] w [] y b e = inr ([], refl)
 apart [] w (x0 ∷ x) y b e = inl (x, cc)
 apart (u0 ∷ u) w [] y b e = inr (u0 ∷ u, refl)
@@ -50,8 +50,8 @@ apart (u0 ∷ u) w (x0 ∷ x) y b e =
     ⊎_map u0 x0 u x b head (apart u w x y b tail)
   where
     ⊎_map : (u0 x0 : ℕ) (u x : List ℕ) (b : ℕ) → u0 ≡ x0 →
-      ((m : List ℕ) × (x ≡ u ++ b ∷ m)) ⊎ ((m : List ℕ) × (u ≡ x ++ m)) →
-      ((m : List ℕ) × (x0 ∷ x ≡ u0 ∷ (u ++ b ∷ m))) ⊎ ((m : List ℕ) × (u0 ∷ u ≡ x0 ∷ (x ++ m)))
+        ((m : List ℕ) × (x ≡ u ++ b ∷ m)) ⊎ ((m : List ℕ) × (u ≡ x ++ m)) →
+        ((m : List ℕ) × (x0 ∷ x ≡ u0 ∷ (u ++ b ∷ m))) ⊎ ((m : List ℕ) × (u0 ∷ u ≡ x0 ∷ (x ++ m)))
     ⊎_map u0 x0 u x b head (inl p) = let e = p.1 in inl (p.0, cc)
     ⊎_map u0 x0 u x b head (inr p) = let e = p.1 in inr (p.0, cc)
 
@@ -79,17 +79,22 @@ module _ {A B : Type 0} (f : Field A) (is : IsField f) (G : A → B → List ℕ
         place = s.place;
         begins = goes_on s.front s.begins;
         no_further = λ b bs eq v more joined.
-          ⊎_elim
-          (λ p. s.no_further b bs eq v.0 p.0 (subst (λ x. f.Spells v.0 x) p.1 joined.2))
-          (λ p. read_it c n e v.0 joined.0 (p.0 ++ s.back) joined.2
+            ⊎_elim
+            (λ p. s.no_further b bs eq v.0 p.0 (subst (λ x. f.Spells v.0 x) p.1 joined.2))
+            (λ p. read_it c n e v.0 joined.0 (p.0 ++ s.back) joined.2
             (s.split ∙ ap (λ x. x ++ s.back) p.1 ∙ append_assoc joined.0 p.0 s.back))
-          (apart s.front more joined.0 joined.1 b joined.4) }
+            (apart s.front more joined.0 joined.1 b joined.4);
+      }
     where
       goes_on : (front : List ℕ) → Begins f.Spells front → Begins Joined front
       goes_on front p =
-          let q = begins p.0 in
-          ((p.0, q.0), p.1 ++ q.1, All-append (λ x. x < 256) p.1 q.1 p.2 q.2,
-            (front ++ p.1, q.1, p.3, q.3, sym (append_assoc front p.1 q.1)))
+          let q = begins p.0 in (
+            (p.0, q.0),
+            p.1 ++ q.1,
+            All-append (λ x. x < 256) p.1 q.1 p.2 q.2,
+            (front ++ p.1, q.1, p.3, q.3, sym (append_assoc front p.1 q.1)),
+          )
+
       read_it : (c : Cursor) (n : ℕ) → f.read c ≡ Err n → (a : A) (x z : List ℕ) → f.Spells a x → c.rest ≡ x ++ z → ⊥
       read_it c n e a x z s split =
           let one = subst (λ (w : List ℕ). f.read (record { at = c.at; rest = w }) ≡ Ok (a, record { at = c.at + length x; rest = z })) (sym split) (is.only c.at a x z s) in
@@ -106,10 +111,11 @@ module _ {A B : Type 0} (f : Field A) (is : IsField f) (G : A → B → List ℕ
         place = placed_at t.text s.front t.place s.place;
         begins = ((a, s.begins.0), s.begins.1, s.begins.2, (t.text, s.front ++ s.begins.1, t.spelled, s.begins.3, append_assoc t.text s.front s.begins.1));
         no_further = λ b bs eq v more joined.
-          let same = same_front a v.0 t.text (s.front ++ b ∷ more) joined.0 joined.1 t.spelled joined.2
+            let same = same_front a v.0 t.text (s.front ++ b ∷ more) joined.0 joined.1 t.spelled joined.2
             (sym (append_assoc t.text s.front (b ∷ more)) ∙ joined.4) in
-          s.no_further b bs eq v.1 more
-          (subst (λ x. G x v.1 (s.front ++ b ∷ more)) (sym same.0) (subst (λ x. G v.0 v.1 x) (sym same.1) joined.3)) }
+            s.no_further b bs eq v.1 more
+            (subst (λ x. G x v.1 (s.front ++ b ∷ more)) (sym same.0) (subst (λ x. G v.0 v.1 x) (sym same.1) joined.3));
+      }
     where
       placed_at : (x y : List ℕ) → next.at ≡ c.at + length x → n ≡ next.at + length y → n ≡ c.at + length (x ++ y)
       placed_at x y p q = omega (arith, length-append x y)
@@ -117,39 +123,45 @@ module _ {A B : Type 0} (f : Field A) (is : IsField f) (G : A → B → List ℕ
 module _ {A B : Type 0} (f : Field A) (g : A → Field B) (is : IsField f) (are : (a : A) → IsField (g a)) where
   pub follow-lawful : IsField (follow f g)
   follow-lawful = record {
-      found = λ c last v e. found_both c last v (and_then_ok (f.read c) _ (v, last) e);
-      only = λ at v text rest s. only_both at v s.0 s.1 text rest s.2 s.3 s.4;
-      stops = λ c n e. ⊎_elim
+    found = λ c last v e. found_both c last v (and_then_ok (f.read c) _ (v, last) e);
+    only = λ at v text rest s. only_both at v s.0 s.1 text rest s.2 s.3 s.4;
+    stops = λ c n e. ⊎_elim
         (λ p. stops_first f is (λ a. (g a).Spells) (λ a. (are a).begins) c n p)
         (λ p. stops_second f is (λ a. (g a).Spells) c p.1 p.0 n p.2 (stops_behind p.0 p.1 n p.3))
         (and_then_err (f.read c) _ n e);
-      written = λ v fits. (f.write v.0, (g v.0).write v.1, is.written v.0 fits.0, (are v.0).written v.1 fits.1, refl);
-      begins = begins_both is.begins }
+    written = λ v fits. (f.write v.0, (g v.0).write v.1, is.written v.0 fits.0, (are v.0).written v.1 fits.1, refl);
+    begins = begins_both is.begins;
+  }
     where
       k : A → Cursor → Found (A × B)
       k a next = and_then ((g a).read next) (λ b last. Ok ((a, b), last))
+
       stops_behind : (a : A) (next : Cursor) (n : ℕ) → k a next ≡ Err n → StopsAt (g a).Spells next n
       stops_behind a next n e = ⊎_elim
-        (λ p. (are a).stops next n p)
-        (λ p. absurd (not_found (a, p.0) p.1 n p.3))
-        (and_then_err ((g a).read next) (λ b last. found_as (a, b) last) n e)
+          (λ p. (are a).stops next n p)
+          (λ p. absurd (not_found (a, p.0) p.1 n p.3))
+          (and_then_err ((g a).read next) (λ b last. found_as (a, b) last) n e)
+
       joined_found : (c next last : Cursor) (a : A) (b : B) → FoundAt f.Spells c next a → FoundAt (g a).Spells next last b →
-        FoundAt (follow f g).Spells c last (a, b)
+          FoundAt (follow f g).Spells c last (a, b)
       joined_found c next last a b s t = record {
         text = s.text ++ t.text;
         spelled = (s.text, t.text, s.spelled, t.spelled, refl);
         split = s.split ∙ ap (λ x. s.text ++ x) t.split ∙ sym (append_assoc s.text t.text last.rest);
-        place = omega (arith, s.place, t.place, length-append s.text t.text) }
+        place = omega (arith, s.place, t.place, length-append s.text t.text);
+      }
+
       found_both : (c last : Cursor) (v : A × B) → ((a : A) × (next : Cursor) × (f.read c ≡ Ok (a, next)) × (k a next ≡ Ok (v, last))) →
-        FoundAt (follow f g).Spells c last v
+          FoundAt (follow f g).Spells c last v
       found_both c last v p =
           let q = and_then_ok ((g p.0).read p.1) (λ b last. found_as (p.0, b) last) (v, last) p.3 in
           let same = same_found (p.0, q.0) v q.1 last q.3 in
           subst (λ (w : A × B). FoundAt (follow f g).Spells c last w) same.0
           (subst (λ (d : Cursor). FoundAt (follow f g).Spells c d (p.0, q.0)) same.1
           (joined_found c p.1 q.1 p.0 q.0 (is.found c p.1 p.0 p.2) ((are p.0).found p.1 q.1 q.0 q.2)))
+
       only_both : (at : ℕ) (v : A × B) (x y text rest : List ℕ) → f.Spells v.0 x → (g v.0).Spells v.1 y → text ≡ x ++ y →
-        (follow f g).read (record { at = at; rest = text ++ rest }) ≡ Ok (v, record { at = at + length text; rest = rest })
+          (follow f g).read (record { at = at; rest = text ++ rest }) ≡ Ok (v, record { at = at + length text; rest = rest })
       only_both at v x y text rest s t e =
           let one = is.only at v.0 x (y ++ rest) s in
           let two = (are v.0).only (at + length x) v.1 y rest t in
@@ -159,6 +171,7 @@ module _ {A B : Type 0} (f : Field A) (g : A → Field B) (is : IsField f) (are 
           (ap (λ (r : Found A). and_then r k) one
           ∙ ap (λ (r : Found B). and_then r (λ b last. found_as (v.0, b) last)) two
           ∙ ap (λ (n : ℕ). found_as v (record { at = n; rest = rest })) size)
+
       begins_both : Begins f.Spells [] → Begins (follow f g).Spells []
       begins_both p =
           let q = (are p.0).begins in
@@ -167,30 +180,34 @@ module _ {A B : Type 0} (f : Field A) (g : A → Field B) (is : IsField f) (are 
 module _ {A B : Type 0} (f : Field A) (g : A → Form B) (is : IsField f) (are : (a : A) → IsForm (g a)) where
   pub lead-lawful : IsForm (lead f g)
   lead-lawful = record {
-      found = λ c v e. found_both c v (and_then_ok (f.read c) k v e);
-      only = λ c v s. only_both c v s.0 s.1 s.2 s.3 s.4;
-      stops = λ c n e. ⊎_elim
+    found = λ c v e. found_both c v (and_then_ok (f.read c) k v e);
+    only = λ c v s. only_both c v s.0 s.1 s.2 s.3 s.4;
+    stops = λ c n e. ⊎_elim
         (λ p. stops_first f is (λ a. (g a).Spells) (λ a. (are a).begins) c n p)
         (λ p. stops_second f is (λ a. (g a).Spells) c p.1 p.0 n p.2
-          ((are p.0).stops p.1 n (map_found_err (λ b. (p.0, b)) ((g p.0).read p.1) n p.3)))
+        ((are p.0).stops p.1 n (map_found_err (λ b. (p.0, b)) ((g p.0).read p.1) n p.3)))
         (and_then_err (f.read c) k n e);
-      written = λ v fits. (f.write v.0, (g v.0).write v.1, is.written v.0 fits.0, (are v.0).written v.1 fits.1, refl);
-      begins = begins_both is.begins }
+    written = λ v fits. (f.write v.0, (g v.0).write v.1, is.written v.0 fits.0, (are v.0).written v.1 fits.1, refl);
+    begins = begins_both is.begins;
+  }
     where
       k : A → Cursor → Result (A × B) ℕ
       k a next = map_found (λ b. (a, b)) ((g a).read next)
+
       found_both : (c : Cursor) (v : A × B) → ((a : A) × (next : Cursor) × (f.read c ≡ Ok (a, next)) × (k a next ≡ Ok v)) →
-        (lead f g).Spells v c.rest
+          (lead f g).Spells v c.rest
       found_both c v p =
           let q = map_found_ok (λ b. (p.0, b)) ((g p.0).read p.1) v p.3 in
           let t = is.found c p.1 p.0 p.2 in
           subst (λ (w : A × B). (lead f g).Spells w c.rest) q.2
           (t.text, p.1.rest, t.spelled, (are p.0).found p.1 q.0 q.1, t.split)
+
       only_both : (c : Cursor) (v : A × B) (x y : List ℕ) → f.Spells v.0 x → (g v.0).Spells v.1 y → c.rest ≡ x ++ y → (lead f g).read c ≡ Ok v
       only_both c v x y s t e =
           subst (λ (w : List ℕ). (lead f g).read (record { at = c.at; rest = w }) ≡ Ok v) (sym e)
           (ap (λ (r : Found A). and_then r k) (is.only c.at v.0 x y s)
           ∙ ap (λ (r : Result B ℕ). map_found (λ b. (v.0, b)) r) ((are v.0).only (record { at = c.at + length x; rest = y }) v.1 t))
+
       begins_both : Begins f.Spells [] → Begins (lead f g).Spells []
       begins_both p =
           let q = (are p.0).begins in

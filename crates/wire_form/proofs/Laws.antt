@@ -27,7 +27,7 @@ pub record IsField {A : Type 0} (f : Field A) : Type 0 where
   pub found : (c next : Cursor) (a : A) → f.read c ≡ Ok (a, next) → FoundAt f.Spells c next a
   -- what is spelled so is read, whatever follows
   pub only : (at : ℕ) (a : A) (text rest : List ℕ) → f.Spells a text →
-    f.read (record { at = at; rest = text ++ rest }) ≡ Ok (a, record { at = at + length text; rest = rest })
+      f.read (record { at = at; rest = text ++ rest }) ≡ Ok (a, record { at = at + length text; rest = rest })
   pub stops : (c : Cursor) (n : ℕ) → f.read c ≡ Err n → StopsAt f.Spells c n
   -- what is written is a spelling
   pub written : (a : A) → f.Fits a → f.Spells a (f.write a)

@@ -59,7 +59,7 @@ passed_all (x ∷ text) (longer ne h) =
 -- ## What the reader answers
 
 pub text_at-found : (at : ℕ) (text rest : List ℕ) → HasNoZero text →
-  text_at (record { at = at; rest = text ++ 0 ∷ rest }) ≡ Ok (text, record { at = at + (length text + 1); rest = rest })
+    text_at (record { at = at; rest = text ++ 0 ∷ rest }) ≡ Ok (text, record { at = at + (length text + 1); rest = rest })
 unfolding text_at
 text_at-found at text rest h =
     let c : Cursor = record { at = at; rest = text ++ 0 ∷ rest } in
@@ -72,6 +72,7 @@ text_at-found at text rest h =
   where
     found_text : List ℕ → Cursor → Read (List ℕ)
     found_text x c = Ok (x, c)
+
     dropped : (text rest : List ℕ) → drop (length text + 1) (text ++ 0 ∷ rest) ≡ rest
     dropped text rest = sym (drop-drop 1 (length text) (text ++ 0 ∷ rest)) ∙ ap (λ (x : List ℕ). drop 1 x) (drop_at text (0 ∷ rest) (length text) refl)
 
@@ -84,21 +85,24 @@ text_at-none at text h =
 
 pub name-lawful : IsField name
 name-lawful = record {
-    found = λ c next v e. found_in c.at c.rest next v e (first_zero c.rest);
-    only = only_in;
-    stops = λ c n e. stops_in c.at c.rest n e (first_zero c.rest);
-    written = λ v h. (h, refl);
-    begins = ([], 0 ∷ [], All-cons (λ x. x < 256) 0 [] (omega arith) (All-nil (λ x. x < 256)), (no_zero [] empty, refl)) }
+  found = λ c next v e. found_in c.at c.rest next v e (first_zero c.rest);
+  only = only_in;
+  stops = λ c n e. stops_in c.at c.rest n e (first_zero c.rest);
+  written = λ v h. (h, refl);
+  begins = ([], 0 ∷ [], All-cons (λ x. x < 256) 0 [] (omega arith) (All-nil (λ x. x < 256)), (no_zero [] empty, refl));
+}
   where
     read_found : (at : ℕ) (rest text after : List ℕ) → HasNoZero text → rest ≡ text ++ 0 ∷ after →
-      name.read (record { at = at; rest = rest }) ≡ found_as text (record { at = at + (length text + 1); rest = after })
+        name.read (record { at = at; rest = rest }) ≡ found_as text (record { at = at + (length text + 1); rest = after })
     read_found at rest text after h e =
         subst (λ (w : List ℕ). name.read (record { at = at; rest = w }) ≡ found_as text (record { at = at + (length text + 1); rest = after })) (sym e)
         (ap placed (text_at-found at text after h))
+
     read_none : (at : ℕ) (rest : List ℕ) → HasNoZero rest → name.read (record { at = at; rest = rest }) ≡ failed_at (at + length rest)
     read_none at rest h = ap placed (text_at-none at rest h)
+
     found_in : (at : ℕ) (rest : List ℕ) (next : Cursor) (v : List ℕ) → name.read (record { at = at; rest = rest }) ≡ found_as v next → FirstZero rest →
-      FoundAt name.Spells (record { at = at; rest = rest }) next v
+        FoundAt name.Spells (record { at = at; rest = rest }) next v
     found_in at rest next v e (at_zero text after h split) =
         let same = same_found text v (record { at = at + (length text + 1); rest = after }) next (sym (read_found at rest text after h split) ∙ e) in
         subst (λ (y : List ℕ). FoundAt name.Spells (record { at = at; rest = rest }) next y) same.0
@@ -107,24 +111,30 @@ name-lawful = record {
           text = text ++ 0 ∷ [];
           spelled = (no_zero text h, refl);
           split = split ∙ sym (append_assoc text (0 ∷ []) after);
-          place = ap (λ (n : ℕ). at + n) (sym (length-append text (0 ∷ []))) }))
+          place = ap (λ (n : ℕ). at + n) (sym (length-append text (0 ∷ [])));
+        }))
     found_in at rest next v e (nowhere h) = absurd (not_found v next (at + length rest) (sym e ∙ read_none at rest h))
+
     only_in : (at : ℕ) (v text rest : List ℕ) → name.Spells v text →
-      name.read (record { at = at; rest = text ++ rest }) ≡ found_as v (record { at = at + length text; rest = rest })
+        name.read (record { at = at; rest = text ++ rest }) ≡ found_as v (record { at = at + length text; rest = rest })
     only_in at v text rest s =
         read_found at (text ++ rest) v rest (none_of v s.0) (ap (λ (w : List ℕ). w ++ rest) s.1 ∙ append_assoc v (0 ∷ []) rest)
         ∙ ap (λ (n : ℕ). found_as v (record { at = at + n; rest = rest })) (sym (ap length s.1 ∙ length-append v (0 ∷ [])))
+
     no_cons : (b : ℕ) (bs : List ℕ) → [] ≡ b ∷ bs → ⊥
     no_cons b bs e = cc
+
     same_place : (m n : ℕ) → failed_at {A = List ℕ} m ≡ failed_at n → m ≡ n
     same_place m n e = cc
+
     stops_in : (at : ℕ) (rest : List ℕ) (n : ℕ) → name.read (record { at = at; rest = rest }) ≡ failed_at n → FirstZero rest →
-      StopsAt name.Spells (record { at = at; rest = rest }) n
+        StopsAt name.Spells (record { at = at; rest = rest }) n
     stops_in at rest n e (at_zero text after h split) = absurd (not_found text (record { at = at + (length text + 1); rest = after }) n (sym (read_found at rest text after h split) ∙ e))
     stops_in at rest n e (nowhere h) = record {
-        front = rest;
-        back = [];
-        split = sym (append-nil rest);
-        place = sym (same_place (at + length rest) n (sym (read_none at rest h) ∙ e));
-        begins = (rest, 0 ∷ [], All-cons (λ x. x < 256) 0 [] (omega arith) (All-nil (λ x. x < 256)), (no_zero rest h, refl));
-        no_further = λ b bs e. absurd (no_cons b bs e) }
+      front = rest;
+      back = [];
+      split = sym (append-nil rest);
+      place = sym (same_place (at + length rest) n (sym (read_none at rest h) ∙ e));
+      begins = (rest, 0 ∷ [], All-cons (λ x. x < 256) 0 [] (omega arith) (All-nil (λ x. x < 256)), (no_zero rest h, refl));
+      no_further = λ b bs e. absurd (no_cons b bs e);
+    }

@@ -58,17 +58,18 @@ module _ {A : Type 0} (size : ℕ) (make : List ℕ → A) (f : Field A)
     (written : (a : A) → f.Fits a → f.Spells a (f.write a)) where
   fixed-lawful : IsField f
   fixed-lawful = record {
-      found = λ c next a e. ⊎_elim
+    found = λ c next a e. ⊎_elim
         (λ h. absurd (not_found a next (c.at + length c.rest) (sym e ∙ at_short c h)))
         (λ h. found_long c next a h (same_found (make (take size c.rest)) a (behind size c) next (sym (at_long c h) ∙ e)))
         (cases_lt (length c.rest) size);
-      only = λ at a text rest s. only_long at a text rest (sized a text s);
-      stops = λ c n e. ⊎_elim
+    only = λ at a text rest s. only_long at a text rest (sized a text s);
+    stops = λ c n e. ⊎_elim
         (λ h. stops_short c n h (same_place (c.at + length c.rest) n (sym (at_short c h) ∙ e)))
         (λ h. absurd (not_found (make (take size c.rest)) (behind size c) n (sym (at_long c h) ∙ e)))
         (cases_lt (length c.rest) size);
-      written = written;
-      begins = (make (replicate size 0), replicate size 0, All-replicate (λ x. x < 256) size 0 (omega arith), spells (replicate size 0) (length-replicate {A = ℕ} size 0)) }
+    written = written;
+    begins = (make (replicate size 0), replicate size 0, All-replicate (λ x. x < 256) size 0 (omega arith), spells (replicate size 0) (length-replicate {A = ℕ} size 0));
+  }
     where
       found_long : (c next : Cursor) (a : A) → size ≤ length c.rest → (make (take size c.rest) ≡ a) × (behind size c ≡ next) → FoundAt f.Spells c next a
       found_long c next a h same =
@@ -77,9 +78,11 @@ module _ {A : Type 0} (size : ℕ) (make : List ℕ → A) (f : Field A)
             text = take size c.rest;
             spelled = spells (take size c.rest) (length-take-le size c.rest h);
             split = sym (take-append-drop size c.rest);
-            place = ap (λ n. c.at + n) (sym (length-take-le size c.rest h)) }))
+            place = ap (λ n. c.at + n) (sym (length-take-le size c.rest h));
+          }))
+
       only_long : (at : ℕ) (a : A) (text rest : List ℕ) → (length text ≡ size) × (make text ≡ a) →
-        f.read (record { at = at; rest = text ++ rest }) ≡ found_as a (record { at = at + length text; rest = rest })
+          f.read (record { at = at; rest = text ++ rest }) ≡ found_as a (record { at = at + length text; rest = rest })
       only_long at a text rest p =
           let one = at_long (record { at = at; rest = text ++ rest }) (omega (arith, p.0, length-append text rest)) in
           one
@@ -87,12 +90,16 @@ module _ {A : Type 0} (size : ℕ) (make : List ℕ → A) (f : Field A)
           ∙ ap (λ (x : A). found_as x (record { at = at + size; rest = drop size (text ++ rest) })) p.1
           ∙ ap (λ (x : List ℕ). found_as a (record { at = at + size; rest = x })) (drop_at text rest size p.0)
           ∙ ap (λ (n : ℕ). found_as a (record { at = at + n; rest = rest })) (sym p.0)
+
       same_place : (m n : ℕ) → failed_at {A = A} m ≡ failed_at n → m ≡ n
       same_place m n e = cc
+
       whole : (c : Cursor) → length c.rest < size → length c.rest + length {A = ℕ} (replicate (size - length c.rest) 0) ≡ size
       whole c h = omega (arith, length-replicate {A = ℕ} (size - length c.rest) 0)
+
       empty : (b : ℕ) (bs : List ℕ) → [] ≡ b ∷ bs → ⊥
       empty b bs e = cc
+
       stops_short : (c : Cursor) (n : ℕ) → length c.rest < size → c.at + length c.rest ≡ n → StopsAt f.Spells c n
       stops_short c n h e =
           let filled = c.rest ++ replicate (size - length c.rest) 0 in
@@ -101,22 +108,27 @@ module _ {A : Type 0} (size : ℕ) (make : List ℕ → A) (f : Field A)
             back = [];
             split = sym (append-nil c.rest);
             place = sym e;
-            begins = (make filled, replicate (size - length c.rest) 0, All-replicate (λ x. x < 256) (size - length c.rest) 0 (omega arith),
-              spells filled (length-append c.rest (replicate (size - length c.rest) 0) ∙ whole c h));
-            no_further = λ b bs none. absurd (empty b bs none) }
+            begins = (
+              make filled,
+              replicate (size - length c.rest) 0,
+              All-replicate (λ x. x < 256) (size - length c.rest) 0 (omega arith),
+              spells filled (length-append c.rest (replicate (size - length c.rest) 0) ∙ whole c h),
+            );
+            no_further = λ b bs none. absurd (empty b bs none);
+          }
 
 pub number-lawful : (size : ℕ) → IsField (number size)
 number-lawful size = fixed-lawful size little (number size)
-  (λ c h. ap placed (number_at-short size c h))
-  (λ c h. ap placed (number_at-long size c h))
-  (λ text e. (e, refl))
-  (λ n text s. s)
-  (λ n h. (length-little_text size n, little-little_text size n h))
+    (λ c h. ap placed (number_at-short size c h))
+    (λ c h. ap placed (number_at-long size c h))
+    (λ text e. (e, refl))
+    (λ n text s. s)
+    (λ n h. (length-little_text size n, little-little_text size n h))
 
 pub bytes-lawful : (size : ℕ) → IsField (bytes size)
 bytes-lawful size = fixed-lawful size (λ v. v) (bytes size)
-  (λ c h. ap placed (bytes_at-short size c h))
-  (λ c h. ap placed (bytes_at-long size c h))
-  (λ text e. (e, refl))
-  (λ v text s. (ap length s.1 ∙ s.0, s.1))
-  (λ v h. (h, refl))
+    (λ c h. ap placed (bytes_at-short size c h))
+    (λ c h. ap placed (bytes_at-long size c h))
+    (λ text e. (e, refl))
+    (λ v text s. (ap length s.1 ∙ s.0, s.1))
+    (λ v h. (h, refl))

@@ -45,7 +45,8 @@ number size = record {
   Spells = λ n text. (length text ≡ size) × (little text ≡ n);
   read = λ c. placed (number_at size c);
   Fits = λ n. n < 256 ^ size;
-  write = λ n. little_text size n }
+  write = λ n. little_text size n;
+}
 
 -- one byte that passes a test
 abbrev pub byte : (ℕ → Bool) → Field ℕ
@@ -53,7 +54,8 @@ byte test = record {
   Spells = λ b text. (text ≡ b ∷ []) × IsTrue (test b);
   read = λ c. and_then (placed (number_at 1 c)) (λ b next. if test b then Ok (b, next) else Err c.at);
   Fits = λ b. IsTrue (test b);
-  write = λ b. b ∷ [] }
+  write = λ b. b ∷ [];
+}
 
 -- so many bytes, whatever they are
 abbrev pub bytes : ℕ → Field (List ℕ)
@@ -61,7 +63,8 @@ bytes size = record {
   Spells = λ v text. (length v ≡ size) × (text ≡ v);
   read = λ c. placed (bytes_at size c);
   Fits = λ v. length v ≡ size;
-  write = λ v. v }
+  write = λ v. v;
+}
 
 -- a length-encoded integer: in one byte below 251, or in 2, 3 or 8 bytes behind a byte that tells which
 abbrev pub SpellsLenenc : ℕ → List ℕ → Type 0
@@ -78,7 +81,8 @@ lenenc = record {
   Spells = SpellsLenenc;
   read = λ c. placed (lenenc_at c);
   Fits = λ n. n < 2 ^ 64;
-  write = λ n. lenenc_text n }
+  write = λ n. lenenc_text n;
+}
 
 -- a text without 00, and the 00 that ends it
 abbrev pub name : Field (List ℕ)
@@ -86,7 +90,8 @@ name = record {
   Spells = λ v text. (¬ Contains v 0) × (text ≡ v ++ 0 ∷ []);
   read = λ c. placed (text_at c);
   Fits = λ v. ¬ Contains v 0;
-  write = λ v. v ++ 0 ∷ [] }
+  write = λ v. v ++ 0 ∷ [];
+}
 
 -- ## Fields made of fields
 
@@ -96,7 +101,8 @@ follow f g = record {
   Spells = λ v text. (front back : List ℕ) × f.Spells v.0 front × (g v.0).Spells v.1 back × (text ≡ front ++ back);
   read = λ c. and_then (f.read c) (λ a next. and_then ((g a).read next) (λ b last. Ok ((a, b), last)));
   Fits = λ v. f.Fits v.0 × (g v.0).Fits v.1;
-  write = λ v. f.write v.0 ++ (g v.0).write v.1 }
+  write = λ v. f.write v.0 ++ (g v.0).write v.1;
+}
 
 -- one field behind another
 infixr 6 ◌▸◌
@@ -109,7 +115,8 @@ made {A} to from f = record {
   Spells = λ b text. (a : A) × f.Spells a text × (to a ≡ b);
   read = λ c. and_then (f.read c) (λ a next. Ok (to a, next));
   Fits = λ b. f.Fits (from b) × (to (from b) ≡ b);
-  write = λ b. f.write (from b) }
+  write = λ b. f.write (from b);
+}
 
 -- this very byte, which tells nothing
 abbrev pub mark : ℕ → Field (Unit {0})
@@ -138,9 +145,11 @@ optional true f = record {
   Spells = λ v text. IsSomeAnd v (λ a. f.Spells a text);
   read = λ c. and_then (f.read c) (λ a next. Ok (Some a, next));
   Fits = λ v. IsSomeAnd v f.Fits;
-  write = λ v. written_if_some f v }
+  write = λ v. written_if_some f v;
+}
 optional false f = record {
   Spells = λ v text. (v ≡ None) × (text ≡ []);
   read = λ c. Ok (None, c);
   Fits = λ v. v ≡ None;
-  write = λ v. [] }
+  write = λ v. [];
+}

@@ -1,6 +1,6 @@
 -- Forms: what a whole payload is, from its first byte to its last. As a field, but nothing follows.
 use Rattle.std.specs.Prelude.{◌≡◌, ℕ, ◌⊎◌, Bool, true, false, List, [], ◌∷◌, ◌++◌, Contains, Option, Some, None, Result, Ok, Err}
-use Rattle.lg_base.specs.Reading.{Cursor, Read, text_at}
+use Rattle.lg_base.specs.Reading.{Cursor, Read, first, text_at}
 use Rattle.wire_form.specs.Fields.{Field, and_then, map_found}
 
 pub record Form (A : Type 0) : Type 1 where
@@ -15,7 +15,8 @@ rest = record {
   Spells = λ v text. text ≡ v;
   read = λ c. Ok c.rest;
   Fits = λ v. Unit {0};
-  write = λ v. v }
+  write = λ v. v;
+}
 
 -- no byte
 abbrev pub nothing_at : ℕ → List ℕ → Result (Unit {0}) ℕ
@@ -27,7 +28,8 @@ nothing = record {
   Spells = λ v text. text ≡ [];
   read = λ c. nothing_at c.at c.rest;
   Fits = λ v. Unit {0};
-  write = λ v. [] }
+  write = λ v. [];
+}
 
 -- a field, and behind it a form that may depend on the field's value
 abbrev pub lead : {A B : Type 0} → Field A → (A → Form B) → Form (A × B)
@@ -35,7 +37,8 @@ lead f g = record {
   Spells = λ v text. (front back : List ℕ) × f.Spells v.0 front × (g v.0).Spells v.1 back × (text ≡ front ++ back);
   read = λ c. and_then (f.read c) (λ a next. map_found (λ b. (a, b)) ((g a).read next));
   Fits = λ v. f.Fits v.0 × (g v.0).Fits v.1;
-  write = λ v. f.write v.0 ++ (g v.0).write v.1 }
+  write = λ v. f.write v.0 ++ (g v.0).write v.1;
+}
 
 -- a field, and behind it a form
 infixr 6 ◌▹◌
@@ -48,7 +51,8 @@ whole {A} to from f = record {
   Spells = λ b text. (a : A) × f.Spells a text × (to a ≡ b);
   read = λ c. map_found to (f.read c);
   Fits = λ b. f.Fits (from b) × (to (from b) ≡ b);
-  write = λ b. f.write (from b) }
+  write = λ b. f.write (from b);
+}
 
 -- a text, the 00 that ends it, and a form behind that. Where nothing follows, the 00 may be missing: then
 -- the value behind the text is this one.
@@ -59,15 +63,11 @@ name_then g none c (Err fault) = Ok (c.rest, none)
 abbrev pub last_name : {B : Type 0} → Form B → B → Form (List ℕ × B)
 last_name g none = record {
   Spells = λ v text. (¬ Contains v.0 0)
-    × (((back : List ℕ) × g.Spells v.1 back × (text ≡ v.0 ++ 0 ∷ back)) ⊎ ((text ≡ v.0) × (v.1 ≡ none)));
+      × (((back : List ℕ) × g.Spells v.1 back × (text ≡ v.0 ++ 0 ∷ back)) ⊎ ((text ≡ v.0) × (v.1 ≡ none)));
   read = λ c. name_then g none c (text_at c);
   Fits = λ v. (¬ Contains v.0 0) × g.Fits v.1;
-  write = λ v. v.0 ++ 0 ∷ g.write v.1 }
-
--- the first byte of a payload, if there is one
-abbrev pub first : List ℕ → Option ℕ
-first [] = None
-first (b ∷ text) = Some b
+  write = λ v. v.0 ++ 0 ∷ g.write v.1;
+}
 
 -- The first byte tells which form a payload has. A value tells which one it is written in.
 abbrev pub by_first : {A : Type 0} → (Option ℕ → Form A) → (A → Option ℕ) → Form A
@@ -75,7 +75,8 @@ by_first f which = record {
   Spells = λ v text. (f (first text)).Spells v text;
   read = λ c. (f (first c.rest)).read c;
   Fits = λ v. (f (which v)).Fits v × (first ((f (which v)).write v) ≡ which v);
-  write = λ v. (f (which v)).write v }
+  write = λ v. (f (which v)).write v;
+}
 
 -- one of two forms
 abbrev pub either : {A : Type 0} → Bool → Form A → Form A → Form A
