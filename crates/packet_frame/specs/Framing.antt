@@ -1,0 +1,59 @@
+-- Where a reader of a stream stands: what it has taken since the last packet, and what that gives.
+use Rattle.std.specs.Prelude.{◌≡◌, ℕ, ◌+◌, Bool, true, false, List, ◌++◌, length, take, Result, Ok, Err}
+use Rattle.packet_frame.specs.declared.packets.Want.{Want}
+use Rattle.packet_frame.specs.declared.packets.FrameFault.{FrameFault}
+use Rattle.packet_frame.specs.declared.packets.FrameFault.TheVariants.{TooLarge, OutOfOrder, Memory}
+use Rattle.packet_frame.specs.Front.{Front, Whole, Part, Fault, front}
+
+-- the greatest payload that is taken, which first id the present packet must have, the place of its first
+-- byte in the stream, and the bytes taken from there on
+pub record Framing : Type 0 where
+  pub limit : ℕ
+  pub want : Want
+  pub start : ℕ
+  pub held : List ℕ
+
+-- how many bytes were taken
+abbrev pub place_of : Framing → ℕ
+place_of v = v.start + length v.held
+
+-- what the bytes taken since the last packet are
+abbrev pub found : Framing → Front
+found v = front v.limit v.want v.start v.held
+
+-- further bytes taken
+abbrev pub fed : Framing → List ℕ → Framing
+fed v bytes = record v { held = v.held ++ bytes }
+
+-- the bytes that end the present header or the present piece of payload
+abbrev pub missing_of : Front → ℕ
+missing_of (Whole first last payload behind) = 0
+missing_of (Part missing) = missing
+missing_of (Fault fault) = 0
+
+-- what is taken of a piece: all up to the end of the present header or piece of payload
+abbrev pub due : Framing → List ℕ → List ℕ
+due v piece = take (missing_of (found v)) piece
+
+abbrev pub IsWhole : Front → Type 0
+IsWhole (Whole first last payload behind) = Unit {0}
+IsWhole (Part missing) = ⊥
+IsWhole (Fault fault) = ⊥
+
+abbrev pub IsSound : Front → Type 0
+IsSound (Whole first last payload behind) = Unit {0}
+IsSound (Part missing) = Unit {0}
+IsSound (Fault fault) = ⊥
+
+-- bytes of a piece were taken, and show no fault
+pub record Takes (old : Framing) (piece : List ℕ) (count : ℕ) (new : Framing) : Type 0 where
+  pub grown : new ≡ fed old (due old piece)
+  pub counted : count ≡ length (due old piece)
+  pub sound : IsSound (found new)
+
+-- a piece wasn't taken: for want of memory, which changes nothing, or with the fault that the bytes show,
+-- the header that has it included
+abbrev pub Refuses : Framing → List ℕ → FrameFault → Framing → Type 0
+Refuses old piece Memory new = new ≡ old
+Refuses old piece (TooLarge at) new = (new ≡ fed old (due old piece)) × (found new ≡ Fault (TooLarge at))
+Refuses old piece (OutOfOrder at want got) new = (new ≡ fed old (due old piece)) × (found new ≡ Fault (OutOfOrder at want got))

@@ -1,0 +1,4 @@
+pub mod Packets
+pub mod Front
+pub mod Framing
+pub mod Progress
