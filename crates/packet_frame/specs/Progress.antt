@@ -60,3 +60,13 @@ pub record IsProgress (p : Progress) : Type 0 where
   pub bounded : p.limit ≤ 50331645
   pub in_place : place_of (framing p) ≤ 2 ^ 63
   pub stands : Stands p p.stage
+
+-- the same at the end of a piece of payload, before it is known what comes next
+pub record IsBetween (p : Progress) (size : ℕ) : Type 0 where
+  pub four : length p.header ≡ 4
+  pub begins : Begins p.want p.first (done p)
+  pub bounded : p.limit ≤ 50331645
+  pub in_place : place_of (framing p) ≤ 2 ^ 63
+  pub admitted : IsAdmitted p size
+  pub all : length p.payload.items ≡ p.full * full_size + size
+  pub next_is : p.next ≡ want_after p.want p.first (done p)

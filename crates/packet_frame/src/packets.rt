@@ -2,7 +2,10 @@
 //!
 //! MySQL client/server protocol documentation, "MySQL Packets".
 
+ghost use Rattle.std.specs.Prelude.{◌≡◌};
+
 use lg_base::Bytes;
+use std::alloc::AllocError;
 
 /// Which sequence id the next packet must begin with.
 #[derive(Clone, Copy, Debug, PartialEq, Eq)]
@@ -35,4 +38,14 @@ pub enum FrameFault {
     OutOfOrder { at: u64, want: u8, got: u8 },
     /// No memory was to be had. Nothing was read, and the same bytes may be fed again.
     Memory,
+}
+
+impl From<AllocError> for FrameFault {
+    ghost use Rattle.packet_frame.specs.declared.packets.FrameFault.TheVariants.{Memory};
+
+    ghost from_gives = { λ _ fault. fault ≡ Memory };
+
+    fn from(_refused: AllocError) -> FrameFault {
+        FrameFault::Memory
+    }
 }

@@ -2,9 +2,9 @@
 //!
 //! MySQL client/server protocol documentation, "MySQL Packets" and "Sending More Than 16Mb".
 
-ghost use Rattle.packet_frame.specs.Framing.{place_of, Takes, Refuses};
-ghost use Rattle.packet_frame.specs.Packets.{full_size, header as header_bytes, Wants, IsRefused};
-ghost use Rattle.packet_frame.specs.Progress.{framing, header_place, IsProgress, IsAdmitted};
+ghost use Rattle.packet_frame.specs.Framing.{place_of, found, IsSound, Takes, Refuses};
+ghost use Rattle.packet_frame.specs.Packets.{full_size, laid, header as header_bytes, Wants, IsRefused};
+ghost use Rattle.packet_frame.specs.Progress.{framing, done, header_place, IsProgress, IsBetween};
 ghost use Rattle.std.specs.Prelude.{◌≡◌, ℕ, ◌+◌, ◌-◌, ◌*◌, ◌^◌, ◌<◌, ◌≤◌, ◌++◌, [], length, take, IfOk, IfErr, OnOk};
 
 use crate::packets::{FrameFault, Want};
@@ -54,7 +54,8 @@ pub struct Progress {
 /// The header with the bytes of `piece` after the first `seen`.
 fn filled(mut header: [u8; 4], seen: usize, piece: &[u8]) -> [u8; 4]
     requires { seen + length piece.now ≤ 4 }
-    ensures { take (seen + length piece.now) result ≡ take seen header ++ piece.now }
+    ensures four { length result ≡ 4 }
+    ensures bytes { take (seen + length piece.now) result ≡ take seen header ++ piece.now }
 {
     header[seen..seen + piece.len()].copy_from_slice(piece);
     header
@@ -67,6 +68,26 @@ fn fields(header: [u8; 4]) -> (usize, u8)
 {
     let [low, middle, high, id] = header;
     (u32::from_le_bytes([low, middle, high, 0]) as usize, id)
+}
+
+/// The first id of a packet, `full` pieces of which come before the piece with this id.
+fn first_of(full: usize, first: u8, id: u8) -> u8
+    ensures none { full ≡ 0 → result ≡ id }
+    ensures some { 0 < full → result ≡ first }
+{
+    if full == 0 { id } else { first }
+}
+
+/// What is read after a header that states so many bytes of payload.
+fn stage_of(size: usize) -> Stage
+    ensures none { size ≡ 0 → result ≡ Stage.Ready }
+    ensures some { 0 < size → result ≡ Stage.Payload size }
+{
+    if size == 0 {
+        Stage::Ready
+    } else {
+        Stage::Payload { size }
+    }
 }
 
 impl Progress {
@@ -116,6 +137,111 @@ impl Progress {
                 Err(FrameFault::TooLarge { at })
             }
             _ => Ok((size, id)),
+        }
+    }
+
+    /// Goes on to the payload of a piece, after its header.
+    fn begin_piece(&mut self, header: [u8; 4], size: usize, id: u8)
+        requires stage { self.old.stage ≡ Stage.Header }
+        requires sound { IsProgress self.old }
+        requires in_place { header_place self.old + 4 ≤ 2 ^ 63 }
+        requires is { header ≡ header_bytes size id }
+        requires in_range { size ≤ full_size }
+        requires wanted { Wants self.old.next id }
+        requires fits { self.old.full * full_size + size ≤ self.old.limit }
+        ensures sound { IsProgress self.new }
+        ensures taken { framing self.new ≡ record (framing self.old) { held = laid self.old.first (done self.old) ++ header } }
+        ensures no_fault { IsSound (found (framing self.new)) }
+    {
+        let first = first_of(self.full, self.first, id);
+        let stage = stage_of(size);
+        self.first = first;
+        self.last = id;
+        self.header = header;
+        self.seen = 4;
+        self.stage = stage;
+    }
+
+    /// Takes bytes of the present header.
+    fn take_header(&mut self, piece: &[u8]) -> Result<usize, FrameFault>
+        requires stage { self.old.stage ≡ Stage.Header }
+        requires sound { IsProgress self.old }
+        requires in_place { place_of (framing self.old) + length piece.now ≤ 2 ^ 63 }
+        ensures sound { IsProgress self.new }
+        ensures ok { IfOk result (λ count. Takes (framing self.old) piece.now count (framing self.new)) }
+        ensures err { IfErr result (λ fault. Refuses (framing self.old) piece.now fault (framing self.new)) }
+    {
+        let count = piece.len().min(4 - self.seen);
+        let header = filled(self.header, self.seen, &piece[..count]);
+        if self.seen + count < 4 {
+            self.header = header;
+            self.seen += count;
+            return Ok(count);
+        }
+        match self.admit(header) {
+            Ok((size, id)) => {
+                self.payload.reserve(size)?;
+                self.begin_piece(header, size, id);
+                Ok(count)
+            }
+            Err(fault) => {
+                self.header = header;
+                self.seen = 4;
+                self.stage = Stage::Failed(fault);
+                Err(fault)
+            }
+        }
+    }
+
+    /// Goes on after the end of a piece of payload.
+    fn end_piece(&mut self, size: usize)
+        requires stage { self.old.stage ≡ Stage.Payload size }
+        requires begun { IsBetween self.old size }
+        ensures sound { IsProgress self.new }
+        ensures same { framing self.new ≡ framing self.old }
+        ensures no_fault { IsSound (found (framing self.new)) }
+    {
+        if size == FULL {
+            self.full += 1;
+            self.seen = 0;
+            self.next = Want::Exactly(self.last.wrapping_add(1));
+            self.stage = Stage::Header;
+        } else {
+            self.stage = Stage::Ready;
+        }
+    }
+
+    /// Takes bytes of the present piece of payload, which has `size` bytes.
+    fn take_payload(&mut self, size: usize, piece: &[u8]) -> Result<usize, FrameFault>
+        requires stage { self.old.stage ≡ Stage.Payload size }
+        requires sound { IsProgress self.old }
+        requires in_place { place_of (framing self.old) + length piece.now ≤ 2 ^ 63 }
+        ensures sound { IsProgress self.new }
+        ensures ok { IfOk result (λ count. Takes (framing self.old) piece.now count (framing self.new)) }
+        ensures err { IfErr result (λ fault. Refuses (framing self.old) piece.now fault (framing self.new)) }
+    {
+        let missing = self.full * FULL + size - self.payload.len();
+        let count = piece.len().min(missing);
+        self.payload.extend_from_slice(&piece[..count])?;
+        if count == missing {
+            self.end_piece(size);
+        }
+        Ok(count)
+    }
+
+    /// Takes bytes of `piece` up to the end of the present header or piece of payload.
+    pub fn feed(&mut self, piece: &[u8]) -> Result<usize, FrameFault>
+        requires sound { IsProgress self.old }
+        requires in_place { place_of (framing self.old) + length piece.now ≤ 2 ^ 63 }
+        ensures sound { IsProgress self.new }
+        ensures ok { IfOk result (λ count. Takes (framing self.old) piece.now count (framing self.new)) }
+        ensures err { IfErr result (λ fault. Refuses (framing self.old) piece.now fault (framing self.new)) }
+    {
+        match self.stage {
+            Stage::Header => self.take_header(piece),
+            Stage::Payload { size } => self.take_payload(size, piece),
+            Stage::Ready => Ok(0),
+            Stage::Failed(fault) => Err(fault),
         }
     }
 }

@@ -1,0 +1,318 @@
+-- What each step of a reader leaves.
+use Rattle.std.proofs.Common.{◌≡◌, ℕ, zero, suc, ◌+◌, ◌-◌, ◌*◌, ◌^◌, ◌<◌, ◌≤◌, List, [], ◌∷◌, ◌++◌, length, take, drop, min, refl, sym, ap, ◌∙◌, subst, inl, inr, arith, length-append, length-drop, append_assoc, append-nil}
+use Rattle.std.specs.Global.{Vec}
+use Rattle.std.proofs.lemmas.Bool.{cases_lt}
+use Rattle.std.proofs.lemmas.List.{length-take-le, drop_all, take_all, take_min, drop-append-le}
+use Rattle.packet_frame.specs.declared.packets.Want.{Want}
+use Rattle.packet_frame.specs.declared.packets.Want.TheVariants.{Exactly}
+use Rattle.packet_frame.specs.declared.packets.FrameFault.{FrameFault}
+use Rattle.packet_frame.specs.declared.packets.FrameFault.TheVariants.{TooLarge, OutOfOrder, Memory}
+use Rattle.packet_frame.specs.declared.progress.Progress.{Progress}
+use Rattle.packet_frame.specs.declared.progress.Stage.{Stage}
+use Rattle.packet_frame.specs.declared.progress.Stage.TheVariants.{Header, Payload, Ready, Failed}
+use Rattle.packet_frame.specs.Packets.{full_size, id_after, id_at, header, laid, Wants, Begins, want_after, IsRefused}
+use Rattle.packet_frame.specs.Front.{Front, Whole, Part, Fault, front}
+use Rattle.packet_frame.specs.Framing.{Framing, place_of, found, fed, missing_of, due, IsSound, Takes, Refuses}
+use Rattle.packet_frame.specs.Progress.{full_pieces, present, done, framing, header_place, IsAdmitted, Stands, IsProgress, IsBetween}
+use Rattle.packet_frame.proofs.Readings.{begins-wanted, laid-push}
+use Rattle.packet_frame.proofs.Pieces.{length-laid_pieces, length_held, length-full_pieces, full_pieces-push, full_pieces-append, id_at-after}
+use Rattle.packet_frame.proofs.Standing.{found-ready, found-payload, found-header, found-refused, payload-grown, header-grown}
+
+-- what holds of the first id once a header is taken
+pub record TakesId (count : ℕ) (payload : List ℕ) (want : Want) (first id first' : ℕ) : Type 0 where
+  pub wanted : Wants want first'
+  pub last_is : id ≡ id_at first' count
+  pub laid_is : laid first' (full_pieces count payload) ≡ laid first (full_pieces count payload)
+  pub next_is : want_after want first (full_pieces count payload) ≡ want_after want first' (full_pieces count payload)
+
+pub takes_id : (count : ℕ) (payload : List ℕ) (want : Want) (first id first' : ℕ) → (count ≡ 0 → first' ≡ id) → (0 < count → first' ≡ first) →
+    Begins want first (full_pieces count payload) → Wants (want_after want first (full_pieces count payload)) id → TakesId count payload want first id first'
+unfolding full_pieces
+takes_id zero payload want first id first' none some begins wanted = record {
+    wanted = subst (Wants want) (sym (none refl)) wanted;
+    last_is = sym (none refl);
+    laid_is = refl;
+    next_is = refl;
+  }
+takes_id (suc count) payload want first id first' none some begins wanted =
+    let same : first' ≡ first = some (omega arith) in
+    let rest = full_pieces count (drop full_size payload) in
+    record {
+        wanted = subst (Wants want) (sym same) begins;
+        last_is = wanted ∙ ap (id_at (id_after first)) (length-full_pieces count (drop full_size payload)) ∙ ap (λ i. id_at (id_after i) count) (sym same);
+        laid_is = ap (λ i. laid i (take full_size payload ∷ rest)) same;
+        next_is = ap (λ i. Exactly (id_at (id_after i) (length rest))) (sym same);
+    }
+
+pub record Begun (p : Progress) (bytes : List ℕ) (p' : Progress) : Type 0 where
+  pub sound : IsProgress p'
+  pub taken : framing p' ≡ record (framing p) { held = laid p.first (done p) ++ bytes }
+  pub no_fault : IsSound (found (framing p'))
+
+abbrev pub begun : Progress → List ℕ → ℕ → ℕ → Stage → Progress
+begun p bytes id first stage = record p { first = first; last = id; header = bytes; seen = 4; stage = stage }
+
+-- a header was taken
+pub begun-piece : (p : Progress) (bytes : List ℕ) (size id first' : ℕ) (stage' : Stage) → IsProgress p → p.stage ≡ Header → header_place p + 4 ≤ 2 ^ 63 →
+    bytes ≡ header size id → size ≤ full_size → Wants p.next id → p.full * full_size + size ≤ p.limit →
+    (p.full ≡ 0 → first' ≡ id) → (0 < p.full → first' ≡ p.first) → (size ≡ 0 → stage' ≡ Ready) → (0 < size → stage' ≡ Payload size) →
+    Begun p bytes (begun p bytes id first' stage')
+begun-piece p bytes size id first' stage' h at_header in_place is in_range wanted fits none some ready payload =
+    let p' = begun p bytes id first' stage' in
+    let at_rest = subst (Stands p) at_header h.stands in
+    let taking = takes_id p.full p.payload.items p.want p.first id first' none some h.begins (subst (λ want. Wants want id) h.next_is wanted) in
+    let four : length bytes ≡ 4 = ap length is in
+    let admitted : IsAdmitted p' size = record {
+            seen_all = refl; header_is = is; wanted = taking.wanted; last_is = taking.last_is; in_range = in_range; fits = fits } in
+    let held_length = length_held first' p.full 4 bytes p.payload.items (omega (arith, four)) h.enough in
+    let sound : (stands : Stands p' stage') → IsProgress p' = λ stands. record {
+            four = four;
+            seen_in = omega arith;
+            begins = begins-wanted p.want first' (done p) taking.wanted;
+            next_is = h.next_is ∙ taking.next_is;
+            enough = h.enough;
+            fits = h.fits;
+            bounded = h.bounded;
+            in_place = omega (arith, held_length, in_place, length-laid_pieces p.first p.full p.payload.items h.enough, at_rest.1);
+            stands = stands;
+        } in
+    let nothing : present p ≡ [] = drop_all (p.full * full_size) p.payload.items (omega (arith, at_rest.1)) in
+    let taken : framing p' ≡ record (framing p) { held = laid p.first (done p) ++ bytes } =
+        ap (λ pieces. record (framing p) { held = pieces ++ (take 4 bytes ++ present p) }) taking.laid_is
+        ∙ ap (λ part. record (framing p) { held = laid p.first (done p) ++ (take 4 bytes ++ part) }) nothing
+        ∙ ap (λ head. record (framing p) { held = laid p.first (done p) ++ head }) (append-nil (take 4 bytes) ∙ take_all 4 bytes (omega (arith, four))) in
+    elim (cases_lt 0 size) [
+    | inl more ↦
+        let stands : Stands p' stage' = subst (Stands p') (sym (payload more)) (admitted, omega (arith, at_rest.1)) in
+        record {
+            sound = sound stands;
+            taken = taken;
+            no_fault = subst IsSound (sym (found-payload p' size (sound stands) admitted (omega (arith, at_rest.1)))) tt;
+        }
+    | inr empty ↦
+        let stands : Stands p' stage' = subst (Stands p') (sym (ready (omega arith))) (size, admitted, omega arith, omega (arith, at_rest.1)) in
+        record {
+            sound = sound stands;
+            taken = taken;
+            no_fault = subst IsSound (sym (found-ready p' size (sound stands) admitted (omega arith) (omega (arith, at_rest.1)))) tt;
+        }
+    ]
+
+-- a full piece was taken
+abbrev pub ended : Progress → Want → ℕ → Progress
+ended p next full = record p { next = next; full = full; seen = 0; stage = Header }
+
+pub want_after-pieces : (count : ℕ) (payload : List ℕ) (want : Want) (first : ℕ) → want_after want first (full_pieces (suc count) payload) ≡ Exactly (id_at (id_after first) count)
+unfolding full_pieces
+want_after-pieces count payload want first = ap (λ n. Exactly (id_at (id_after first) n)) (length-full_pieces count (drop full_size payload))
+
+pub record Ended (p : Progress) (p' : Progress) : Type 0 where
+  pub sound : IsProgress p'
+  pub same : framing p' ≡ framing p
+  pub no_fault : IsSound (found (framing p'))
+
+pub ended-full-suc : (p : Progress) → IsBetween p full_size → Ended p (ended p (Exactly (id_after p.last)) (suc p.full))
+ended-full-suc p h =
+    let p' = ended p (Exactly (id_after p.last)) (suc p.full) in
+    let payload = p.payload.items in
+    let admitted = h.admitted in
+    let pieces = full_pieces-push p.full payload h.all in
+    let part_length : length (present p) ≡ full_size = omega (arith, length-drop (p.full * full_size) payload, h.all) in
+    let nothing : drop (suc p.full * full_size) payload ≡ [] = drop_all (suc p.full * full_size) payload (omega (arith, h.all)) in
+    let head_is : take p.seen p.header ≡ header full_size p.last =
+        ap (λ n. take n p.header) admitted.seen_all ∙ take_all 4 p.header (omega (arith, h.four)) ∙ admitted.header_is in
+    let laid_is : laid p.first (full_pieces (suc p.full) payload) ≡ laid p.first (done p) ++ (take p.seen p.header ++ present p) =
+        ap (laid p.first) pieces
+        ∙ laid-push p.first (done p) (present p)
+        ∙ ap (λ n. laid p.first (done p) ++ (header n (id_at p.first (length (done p))) ++ present p)) part_length
+        ∙ ap (λ id. laid p.first (done p) ++ (header full_size id ++ present p)) (ap (id_at p.first) (length-full_pieces p.full payload) ∙ sym admitted.last_is)
+        ∙ ap (λ head. laid p.first (done p) ++ (head ++ present p)) (sym head_is) in
+    let same : framing p' ≡ framing p =
+        ap (λ part. record (framing p) { held = laid p.first (full_pieces (suc p.full) payload) ++ part }) nothing
+        ∙ ap (λ bytes. record (framing p) { held = bytes }) (append-nil (laid p.first (full_pieces (suc p.full) payload)) ∙ laid_is) in
+    let sound : IsProgress p' = record {
+            four = h.four;
+            seen_in = omega arith;
+            begins = begins-wanted p.want p.first (full_pieces (suc p.full) payload) admitted.wanted;
+            next_is =
+                ap Exactly (ap id_after admitted.last_is ∙ sym (id_at-after p.first p.full))
+                ∙ sym (want_after-pieces p.full payload p.want p.first);
+            enough = omega (arith, h.all);
+            fits = omega (arith, admitted.fits);
+            bounded = h.bounded;
+            in_place = subst (λ v. place_of v ≤ 2 ^ 63) (sym same) h.in_place;
+            stands = (omega arith, omega (arith, h.all));
+        } in
+    record { sound = sound; same = same; no_fault = subst IsSound (sym (found-header p' sound (omega arith) (omega (arith, h.all)))) tt }
+
+pub ended-full : (p : Progress) → IsBetween p full_size → (count : ℕ) → count ≡ suc p.full → Ended p (ended p (Exactly (id_after p.last)) count)
+ended-full p h count is = subst (λ n. Ended p (ended p (Exactly (id_after p.last)) n)) (sym is) (ended-full-suc p h)
+
+-- the last piece of a packet was taken
+pub ended-short : (p : Progress) (size : ℕ) → IsBetween p size → size < full_size → Ended p (record p { stage = Ready })
+ended-short p size h less =
+    let p' = record p { stage = Ready } in
+    let admitted = h.admitted in
+    let admitted' : IsAdmitted p' size = record {
+            seen_all = admitted.seen_all; header_is = admitted.header_is; wanted = admitted.wanted; last_is = admitted.last_is; in_range = admitted.in_range; fits = admitted.fits } in
+    let sound : IsProgress p' = record {
+            four = h.four; seen_in = omega (arith, admitted.seen_all); begins = h.begins; next_is = h.next_is; enough = omega (arith, h.all);
+            fits = omega (arith, admitted.fits); bounded = h.bounded; in_place = h.in_place; stands = (size, admitted', less, h.all) } in
+    record { sound = sound; same = refl; no_fault = subst IsSound (sym (found-ready p' size sound admitted' less h.all)) tt }
+
+-- bytes of the payload were taken
+pub paid : (p : Progress) (w : Vec ℕ) (more : List ℕ) → p.full * full_size ≤ length p.payload.items → w.items ≡ p.payload.items ++ more → framing (record p { payload = w }) ≡ fed (framing p) more
+paid p w more enough is =
+    let payload = p.payload.items in
+    let head = take p.seen p.header in
+    ap (λ xs. record (framing p) { held = laid p.first (full_pieces p.full xs) ++ (head ++ drop (p.full * full_size) xs) }) is
+    ∙ ap (λ ps. record (framing p) { held = laid p.first ps ++ (head ++ drop (p.full * full_size) (payload ++ more)) }) (full_pieces-append p.full payload more enough)
+    ∙ ap (λ part. record (framing p) { held = laid p.first (done p) ++ (head ++ part) }) (drop-append-le (p.full * full_size) payload more enough)
+    ∙ ap (λ bytes. record (framing p) { held = bytes }) (payload-grown (laid p.first (done p)) head (present p) more)
+
+-- bytes of the header were taken
+abbrev pub with_header : Progress → List ℕ → ℕ → Stage → Progress
+with_header p head seen stage = record p { header = head; seen = seen; stage = stage }
+
+-- what is taken of a piece, where so many bytes are missing
+pub due-is : (v : Framing) (piece : List ℕ) (missing count : ℕ) → found v ≡ Part missing → count ≡ min (length piece) missing → due v piece ≡ take count piece
+due-is v piece missing count is counted =
+    ap (λ f. take (missing_of f) piece) is
+    ∙ sym (take_min missing piece)
+    ∙ ap (λ n. take n piece) (omega (arith, counted))
+
+pub due-length : (v : Framing) (piece : List ℕ) (missing count : ℕ) → found v ≡ Part missing → count ≡ min (length piece) missing → count ≡ length (due v piece)
+due-length v piece missing count is counted =
+    sym (ap length (due-is v piece missing count is counted) ∙ length-take-le count piece (omega (arith, counted)))
+
+pub header-taken : (p : Progress) (piece : List ℕ) (count : ℕ) (head : List ℕ) (seen : ℕ) (stage : Stage) → IsProgress p → p.stage ≡ Header →
+    count ≡ min (length piece) (4 - p.seen) → take seen head ≡ take p.seen p.header ++ take count piece →
+    framing (with_header p head seen stage) ≡ fed (framing p) (due (framing p) piece)
+header-taken p piece count head seen stage h at_header counted is =
+    let at_rest = subst (Stands p) at_header h.stands in
+    let due_is = due-is (framing p) piece (4 - p.seen) count (found-header p h at_rest.0 at_rest.1) counted in
+    ap (λ bytes. record (framing p) { held = laid p.first (done p) ++ (bytes ++ present p) }) is
+    ∙ ap (λ bytes. record (framing p) { held = bytes })
+        (header-grown (laid p.first (done p)) (take p.seen p.header) (present p) (take count piece) (omega (arith, at_rest.1, length-drop (p.full * full_size) p.payload.items)))
+    ∙ ap (λ more. fed (framing p) more) (sym due_is)
+
+pub header-counted : (p : Progress) (piece : List ℕ) (count : ℕ) → IsProgress p → p.stage ≡ Header →
+    count ≡ min (length piece) (4 - p.seen) → count ≡ length (due (framing p) piece)
+header-counted p piece count h at_header counted =
+    let at_rest = subst (Stands p) at_header h.stands in
+    due-length (framing p) piece (4 - p.seen) count (found-header p h at_rest.0 at_rest.1) counted
+
+-- a header goes on
+pub header-goes-on : (p : Progress) (piece : List ℕ) (count : ℕ) (head : List ℕ) → IsProgress p → p.stage ≡ Header → count ≡ min (length piece) (4 - p.seen) →
+    take (p.seen + count) head ≡ take p.seen p.header ++ take count piece → length head ≡ 4 → p.seen + count < 4 → place_of (framing p) + length piece ≤ 2 ^ 63 →
+    Takes (framing p) piece count (framing (with_header p head (p.seen + count) p.stage))
+header-goes-on p piece count head h at_header counted is four less in_place =
+    let p' = with_header p head (p.seen + count) p.stage in
+    let at_rest = subst (Stands p) at_header h.stands in
+    let grown = header-taken p piece count head (p.seen + count) p.stage h at_header counted is in
+    let count_is = header-counted p piece count h at_header counted in
+    let stands : Stands p' p.stage = subst (Stands p') (sym at_header) (less, at_rest.1) in
+    let sound : IsProgress p' = record {
+            four = four; seen_in = omega arith; begins = h.begins; next_is = h.next_is; enough = h.enough; fits = h.fits; bounded = h.bounded;
+            in_place = subst (λ v. place_of v ≤ 2 ^ 63) (sym grown)
+                (omega (arith, in_place, count_is, counted, length-append (framing p).held (due (framing p) piece)));
+            stands = stands } in
+    record { grown = grown; counted = count_is; sound = subst IsSound (sym (found-header p' sound less at_rest.1)) tt }
+
+-- a header ends: what was taken then
+pub header-ended : (p : Progress) (piece : List ℕ) (count : ℕ) (head : List ℕ) (w : Vec ℕ) → IsProgress p → p.stage ≡ Header → count ≡ min (length piece) (4 - p.seen) →
+    take 4 head ≡ take p.seen p.header ++ take count piece → length head ≡ 4 → w.items ≡ p.payload.items →
+    record (framing p) { held = laid p.first (full_pieces p.full w.items) ++ head } ≡ fed (framing p) (due (framing p) piece)
+header-ended p piece count head w h at_header counted is four same =
+    let at_rest = subst (Stands p) at_header h.stands in
+    let nothing : present p ≡ [] = drop_all (p.full * full_size) p.payload.items (omega (arith, at_rest.1)) in
+    ap (λ xs. record (framing p) { held = laid p.first (full_pieces p.full xs) ++ head }) same
+    ∙ ap (λ bytes. record (framing p) { held = laid p.first (done p) ++ bytes }) (sym (take_all 4 head (omega (arith, four))) ∙ sym (append-nil (take 4 head)))
+    ∙ ap (λ part. record (framing p) { held = laid p.first (done p) ++ (take 4 head ++ part) }) (sym nothing)
+    ∙ header-taken p piece count head 4 p.stage h at_header counted is
+
+-- a header is refused
+pub refuses : (old : Framing) (piece : List ℕ) (room : ℕ) (next : Want) (place size id : ℕ) (fault : FrameFault) (new : Framing) → IsRefused room next place size id fault →
+    new ≡ fed old (due old piece) → found new ≡ Fault fault → Refuses old piece fault new
+refuses old piece room next place size id (TooLarge at) new refused grown shown = (grown, shown)
+refuses old piece room next place size id (OutOfOrder at want got) new refused grown shown = (grown, shown)
+refuses old piece room next place size id Memory new refused grown shown = absurd refused
+
+pub record Fails (p : Progress) (piece : List ℕ) (fault : FrameFault) (p' : Progress) : Type 0 where
+  pub sound : IsProgress p'
+  pub refused : Refuses (framing p) piece fault (framing p')
+
+pub header-refused : (p : Progress) (piece : List ℕ) (count : ℕ) (head : List ℕ) (size id : ℕ) (fault : FrameFault) → IsProgress p → p.stage ≡ Header →
+    count ≡ min (length piece) (4 - p.seen) → take 4 head ≡ take p.seen p.header ++ take count piece → length head ≡ 4 → place_of (framing p) + length piece ≤ 2 ^ 63 →
+    head ≡ header size id → size < 16777216 → IsRefused (p.limit - p.full * full_size) p.next (header_place p) size id fault →
+    Fails p piece fault (with_header p head 4 (Failed fault))
+header-refused p piece count head size id fault h at_header counted is four in_place head_is in_range refused =
+    let p' = with_header p head 4 (Failed fault) in
+    let at_rest = subst (Stands p) at_header h.stands in
+    let grown = header-taken p piece count head 4 (Failed fault) h at_header counted is in
+    let count_is = header-counted p piece count h at_header counted in
+    let nothing : present p ≡ [] = drop_all (p.full * full_size) p.payload.items (omega (arith, at_rest.1)) in
+    let bytes_are : take 4 head ++ present p ≡ header size id =
+        ap (λ part. take 4 head ++ part) nothing ∙ append-nil (take 4 head) ∙ take_all 4 head (omega (arith, four)) ∙ head_is in
+    let shown : found (framing p') ≡ Fault fault =
+        ap (λ bytes. front p.limit p.want p.start (laid p.first (done p) ++ bytes)) bytes_are ∙ found-refused p size id fault h in_range refused in
+    let sound : IsProgress p' = record {
+            four = four; seen_in = omega arith; begins = h.begins; next_is = h.next_is; enough = h.enough; fits = h.fits; bounded = h.bounded;
+            in_place = subst (λ v. place_of v ≤ 2 ^ 63) (sym grown)
+                (omega (arith, in_place, count_is, counted, length-append (framing p).held (due (framing p) piece)));
+            stands = (refl, at_rest.1, shown) } in
+    record { sound = sound; refused = refuses (framing p) piece (p.limit - p.full * full_size) p.next (header_place p) size id fault (framing p') refused grown shown }
+
+-- bytes of the payload were taken
+pub record Paid (p : Progress) (size : ℕ) (piece : List ℕ) (count : ℕ) (p' : Progress) : Type 0 where
+  pub grown : framing p' ≡ fed (framing p) (due (framing p) piece)
+  pub counted : count ≡ length (due (framing p) piece)
+  pub ends : count ≡ p.full * full_size + size - length p.payload.items → IsBetween p' size
+  pub sound : count < p.full * full_size + size - length p.payload.items → IsProgress p'
+  pub no_fault : count < p.full * full_size + size - length p.payload.items → IsSound (found (framing p'))
+
+pub payload-taken : (p : Progress) (size : ℕ) (piece : List ℕ) (count : ℕ) (w : Vec ℕ) → IsProgress p → p.stage ≡ Payload size →
+    count ≡ min (length piece) (p.full * full_size + size - length p.payload.items) → w.items ≡ p.payload.items ++ take count piece →
+    place_of (framing p) + length piece ≤ 2 ^ 63 → Paid p size piece count (record p { payload = w })
+payload-taken p size piece count w h at_payload counted is in_place =
+    let p' = record p { payload = w } in
+    let missing = p.full * full_size + size - length p.payload.items in
+    let at_part = subst (Stands p) at_payload h.stands in
+    let admitted = at_part.0 in
+    let is_part = found-payload p size h admitted at_part.1 in
+    let due_is = due-is (framing p) piece missing count is_part counted in
+    let count_is = due-length (framing p) piece missing count is_part counted in
+    let grown = paid p w (take count piece) h.enough is ∙ ap (λ more. fed (framing p) more) (sym due_is) in
+    let longer : length w.items ≡ length p.payload.items + count =
+        omega (arith, ap length is, length-append p.payload.items (take count piece), length-take-le count piece (omega (arith, counted))) in
+    let pieces_same : full_pieces p.full w.items ≡ done p = ap (full_pieces p.full) is ∙ full_pieces-append p.full p.payload.items (take count piece) h.enough in
+    let begins = subst (Begins p.want p.first) (sym pieces_same) h.begins in
+    let next_is = h.next_is ∙ ap (want_after p.want p.first) (sym pieces_same) in
+    let placed = subst (λ v. place_of v ≤ 2 ^ 63) (sym grown)
+            (omega (arith, in_place, count_is, counted, length-append (framing p).held (due (framing p) piece))) in
+    let admitted' : IsAdmitted p' size = record {
+            seen_all = admitted.seen_all; header_is = admitted.header_is; wanted = admitted.wanted; last_is = admitted.last_is; in_range = admitted.in_range; fits = admitted.fits } in
+    let sound : count < missing → IsProgress p' = λ less.
+        let stands : Stands p' p.stage = subst (Stands p') (sym at_payload) (admitted', omega (arith, longer, less)) in
+        record { four = h.four; seen_in = h.seen_in; begins = begins; next_is = next_is; enough = omega (arith, longer, h.enough); fits = h.fits; bounded = h.bounded;
+            in_place = placed; stands = stands } in
+    record {
+        grown = grown;
+        counted = count_is;
+        ends = λ all. record { four = h.four; begins = begins; bounded = h.bounded; in_place = placed; admitted = admitted';
+            all = omega (arith, longer, all, at_part.1, h.enough); next_is = next_is };
+        sound = sound;
+        no_fault = λ less. subst IsSound (sym (found-payload p' size (sound less) admitted' (omega (arith, longer, less)))) tt;
+    }
+
+-- nothing is taken where a packet is whole
+pub ready-waits : (p : Progress) (piece : List ℕ) → IsProgress p → p.stage ≡ Ready → Takes (framing p) piece 0 (framing p)
+ready-waits p piece h at_ready =
+    let at_end = subst (Stands p) at_ready h.stands in
+    let whole = found-ready p at_end.0 h at_end.1 at_end.2 at_end.3 in
+    let nothing : due (framing p) piece ≡ [] = ap (λ f. take (missing_of f) piece) whole in
+    record {
+        grown = ap (λ bytes. record (framing p) { held = bytes }) (sym (append-nil (framing p).held)) ∙ ap (λ more. fed (framing p) more) (sym nothing);
+        counted = ap length (sym nothing);
+        sound = subst IsSound (sym whole) tt;
+    }
