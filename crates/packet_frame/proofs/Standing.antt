@@ -5,10 +5,12 @@ use Rattle.std.proofs.lemmas.List.{length-take-le, drop_all, take_all}
 use Rattle.packet_frame.specs.declared.packets.Want.{Want}
 use Rattle.packet_frame.specs.declared.packets.FrameFault.{FrameFault}
 use Rattle.packet_frame.specs.declared.progress.Progress.{Progress}
+use Rattle.packet_frame.specs.declared.progress.Stage.{Stage}
+use Rattle.packet_frame.specs.declared.progress.Stage.TheVariants.{Header, Payload, Ready, Failed}
 use Rattle.packet_frame.specs.Packets.{full_size, id_after, id_at, header, laid, Wants, Begins, want_after, IsPacket, IsBegun, IsRefused, IsFault, IsUnfinished}
-use Rattle.packet_frame.specs.Front.{Front, Whole, Part, Fault, front}
-use Rattle.packet_frame.specs.Framing.{Framing, found}
-use Rattle.packet_frame.specs.Progress.{full_pieces, present, done, framing, header_place, IsAdmitted, IsProgress}
+use Rattle.packet_frame.specs.Front.{Front, Whole, Part, Fault, front, IsFront}
+use Rattle.packet_frame.specs.Framing.{Framing, found, IsReading}
+use Rattle.packet_frame.specs.Progress.{full_pieces, present, done, framing, header_place, IsAdmitted, Stands, IsProgress}
 use Rattle.packet_frame.proofs.Readings.{front-packet, front-fault, front-unfinished, want_after-wanted, concat-push, laid-push}
 use Rattle.packet_frame.proofs.Pieces.{length-full_pieces, full_pieces-full, concat-full_pieces, length-concat-full_pieces}
 
@@ -109,22 +111,35 @@ found-payload p size h admitted less =
     front-unfinished p.limit p.want p.start (p.full * full_size + size - length p.payload.items) (framing p).held (unfinished-payload p size h admitted less)
 
 -- a header that is refused
-pub found-refused : (p : Progress) (size id : ℕ) (fault : FrameFault) → IsProgress p → size < 16777216 → IsRefused (p.limit - p.full * full_size) p.next (header_place p) size id fault →
-    front p.limit p.want p.start (laid p.first (done p) ++ header size id) ≡ Fault fault
-found-refused p size id fault h in_range refused =
-    let shown : IsFault p.limit p.want p.start fault (laid p.first (done p) ++ header size id) = record {
-            before = laid p.first (done p);
-            total = p.full * full_size;
-            next = p.next;
-            begun = begun p h;
-            size = size;
-            id = id;
-            behind = [];
-            laid_out = refl;
-            in_range = in_range;
-            refused = refused;
-        } in
-    front-fault p.limit p.want p.start fault (laid p.first (done p) ++ header size id) shown
+pub fault-refused : (p : Progress) (size id : ℕ) (fault : FrameFault) → IsProgress p → size < 16777216 → IsRefused (p.limit - p.full * full_size) p.next (header_place p) size id fault →
+    IsFault p.limit p.want p.start fault (laid p.first (done p) ++ header size id)
+fault-refused p size id fault h in_range refused = record {
+    before = laid p.first (done p);
+    total = p.full * full_size;
+    next = p.next;
+    begun = begun p h;
+    size = size;
+    id = id;
+    behind = [];
+    laid_out = refl;
+    in_range = in_range;
+    refused = refused;
+}
+
+-- the bytes taken since the last packet are a packet, less than one, or show a fault
+pub stands-reading : (p : Progress) → IsProgress p → (stage : Stage) → Stands p stage → IsReading (framing p)
+stands-reading p h Header at_rest =
+    subst (IsFront p.limit p.want p.start (framing p).held) (sym (found-header p h at_rest.0 at_rest.1)) (unfinished-header p h at_rest.0 at_rest.1)
+stands-reading p h (Payload size) at_part =
+    subst (IsFront p.limit p.want p.start (framing p).held) (sym (found-payload p size h at_part.0 at_part.1)) (unfinished-payload p size h at_part.0 at_part.1)
+stands-reading p h Ready (size, admitted, less, all) =
+    subst (IsFront p.limit p.want p.start (framing p).held) (sym (found-ready p size h admitted less all))
+        ((framing p).held, sym (append-nil (framing p).held), packet-ready p size h admitted less all)
+stands-reading p h (Failed fault) at_fault =
+    subst (IsFront p.limit p.want p.start (framing p).held) (sym (front-fault p.limit p.want p.start fault (framing p).held at_fault.2)) at_fault.2
+
+pub progress-reading : (p : Progress) → IsProgress p → IsReading (framing p)
+progress-reading p h = stands-reading p h p.stage h.stands
 
 -- bytes taken within a header, and within a piece of payload
 pub header-grown : (bytes head part more : List ℕ) → length part ≡ 0 → bytes ++ ((head ++ more) ++ part) ≡ bytes ++ (head ++ part) ++ more

@@ -1,22 +1,23 @@
 -- What each step of a reader leaves.
-use Rattle.std.proofs.Common.{◌≡◌, ℕ, zero, suc, ◌+◌, ◌-◌, ◌*◌, ◌^◌, ◌<◌, ◌≤◌, List, [], ◌∷◌, ◌++◌, length, take, drop, min, refl, sym, ap, ◌∙◌, subst, inl, inr, arith, length-append, length-drop, append_assoc, append-nil}
+use Rattle.std.proofs.Common.{◌≡◌, ℕ, zero, suc, ◌+◌, ◌-◌, ◌*◌, ◌^◌, ◌<◌, ◌≤◌, ◌↔◌, ◌⊎◌, List, [], ◌∷◌, ◌++◌, length, take, drop, min, refl, sym, ap, ◌∙◌, subst, inl, inr, arith, length-append, length-drop, append_assoc, append-nil}
 use Rattle.std.specs.Global.{Vec}
 use Rattle.std.proofs.lemmas.Bool.{cases_lt}
-use Rattle.std.proofs.lemmas.List.{length-take-le, drop_all, take_all, take_min, drop-append-le}
+use Rattle.std.proofs.lemmas.List.{length-take-le, drop_all, take_all, take_min, drop-append-le, length-take, nil_from_length}
 use Rattle.packet_frame.specs.declared.packets.Want.{Want}
 use Rattle.packet_frame.specs.declared.packets.Want.TheVariants.{Exactly}
 use Rattle.packet_frame.specs.declared.packets.FrameFault.{FrameFault}
 use Rattle.packet_frame.specs.declared.packets.FrameFault.TheVariants.{TooLarge, OutOfOrder, Memory}
+use Rattle.packet_frame.specs.declared.packets.Packet.{Packet}
 use Rattle.packet_frame.specs.declared.progress.Progress.{Progress}
 use Rattle.packet_frame.specs.declared.progress.Stage.{Stage}
 use Rattle.packet_frame.specs.declared.progress.Stage.TheVariants.{Header, Payload, Ready, Failed}
-use Rattle.packet_frame.specs.Packets.{full_size, id_after, id_at, header, laid, Wants, Begins, want_after, IsRefused}
-use Rattle.packet_frame.specs.Front.{Front, Whole, Part, Fault, front}
-use Rattle.packet_frame.specs.Framing.{Framing, place_of, found, fed, missing_of, due, IsSound, Takes, Refuses}
+use Rattle.packet_frame.specs.Packets.{full_size, id_after, id_at, header, laid, Wants, Begins, want_after, IsPacket, IsRefused, IsFault, IsCut}
+use Rattle.packet_frame.specs.Front.{Front, Whole, Part, Fault, front, IsFront}
+use Rattle.packet_frame.specs.Framing.{Framing, place_of, found, unfinished_length, held_length, expecting, fed, missing_of, due, IsSound, IsWhole, Takes, Refuses, TakesPacket}
 use Rattle.packet_frame.specs.Progress.{full_pieces, present, done, framing, header_place, IsAdmitted, Stands, IsProgress, IsBetween}
-use Rattle.packet_frame.proofs.Readings.{begins-wanted, laid-push}
+use Rattle.packet_frame.proofs.Readings.{begins-wanted, laid-push, front-fault}
 use Rattle.packet_frame.proofs.Pieces.{length-laid_pieces, length_held, length-full_pieces, full_pieces-push, full_pieces-append, id_at-after}
-use Rattle.packet_frame.proofs.Standing.{found-ready, found-payload, found-header, found-refused, payload-grown, header-grown}
+use Rattle.packet_frame.proofs.Standing.{packet-ready, found-ready, found-payload, found-header, fault-refused, payload-grown, header-grown}
 
 -- what holds of the first id once a header is taken
 pub record TakesId (count : ℕ) (payload : List ℕ) (want : Want) (first id first' : ℕ) : Type 0 where
@@ -254,13 +255,13 @@ header-refused p piece count head size id fault h at_header counted is four in_p
     let nothing : present p ≡ [] = drop_all (p.full * full_size) p.payload.items (omega (arith, at_rest.1)) in
     let bytes_are : take 4 head ++ present p ≡ header size id =
         ap (λ part. take 4 head ++ part) nothing ∙ append-nil (take 4 head) ∙ take_all 4 head (omega (arith, four)) ∙ head_is in
-    let shown : found (framing p') ≡ Fault fault =
-        ap (λ bytes. front p.limit p.want p.start (laid p.first (done p) ++ bytes)) bytes_are ∙ found-refused p size id fault h in_range refused in
+    let fault_is = subst (λ bytes. IsFault p.limit p.want p.start fault (laid p.first (done p) ++ bytes)) (sym bytes_are) (fault-refused p size id fault h in_range refused) in
+    let shown : found (framing p') ≡ Fault fault = front-fault p.limit p.want p.start fault (framing p').held fault_is in
     let sound : IsProgress p' = record {
             four = four; seen_in = omega arith; begins = h.begins; next_is = h.next_is; enough = h.enough; fits = h.fits; bounded = h.bounded;
             in_place = subst (λ v. place_of v ≤ 2 ^ 63) (sym grown)
                 (omega (arith, in_place, count_is, counted, length-append (framing p).held (due (framing p) piece)));
-            stands = (refl, at_rest.1, shown) } in
+            stands = (refl, at_rest.1, fault_is) } in
     record { sound = sound; refused = refuses (framing p) piece (p.limit - p.full * full_size) p.next (header_place p) size id fault (framing p') refused grown shown }
 
 -- bytes of the payload were taken
@@ -316,3 +317,109 @@ ready-waits p piece h at_ready =
         counted = ap length (sym nothing);
         sound = subst IsSound (sym whole) tt;
     }
+
+-- a reader that found a fault stays
+pub nothing-taken : (v : Framing) (piece : List ℕ) (fault : FrameFault) → found v ≡ Fault fault → v ≡ fed v (due v piece)
+nothing-taken v piece fault shown =
+    ap (λ bytes. record v { held = bytes }) (sym (append-nil v.held)) ∙ ap (λ f. fed v (take (missing_of f) piece)) (sym shown)
+
+pub failed-again : (v : Framing) (piece : List ℕ) (fault : FrameFault) → IsFault v.limit v.want v.start fault v.held → Refuses v piece fault v
+failed-again v piece (TooLarge at) shown = (nothing-taken v piece (TooLarge at) (front-fault v.limit v.want v.start (TooLarge at) v.held shown), front-fault v.limit v.want v.start (TooLarge at) v.held shown)
+failed-again v piece (OutOfOrder at want got) shown =
+    (nothing-taken v piece (OutOfOrder at want got) (front-fault v.limit v.want v.start (OutOfOrder at want got) v.held shown), front-fault v.limit v.want v.start (OutOfOrder at want got) v.held shown)
+failed-again v piece Memory shown = absurd shown.refused
+
+pub feed-failed : (p : Progress) (piece : List ℕ) (fault : FrameFault) → IsProgress p → p.stage ≡ Failed fault → Refuses (framing p) piece fault (framing p)
+feed-failed p piece fault h at_fault =
+    let stands = subst (Stands p) at_fault h.stands in
+    failed-again (framing p) piece fault stands.2
+
+-- a packet is whole where nothing more is read
+pub ready-whole : (p : Progress) → IsProgress p → p.stage ≡ Ready → IsWhole (found (framing p))
+ready-whole p h at_ready =
+    let at_end = subst (Stands p) at_ready h.stands in
+    subst IsWhole (sym (found-ready p at_end.0 h at_end.1 at_end.2 at_end.3)) tt
+
+pub whole-stands : (p : Progress) → IsProgress p → (stage : Stage) → Stands p stage → IsWhole (found (framing p)) → stage ≡ Ready
+whole-stands p h Header at_rest whole = absurd (subst IsWhole (found-header p h at_rest.0 at_rest.1) whole)
+whole-stands p h (Payload size) at_part whole = absurd (subst IsWhole (found-payload p size h at_part.0 at_part.1) whole)
+whole-stands p h Ready at_end whole = refl
+whole-stands p h (Failed fault) at_fault whole = absurd (subst IsWhole (front-fault p.limit p.want p.start fault (framing p).held at_fault.2) whole)
+
+pub whole-ready : (p : Progress) → IsProgress p → IsWhole (found (framing p)) → p.stage ≡ Ready
+whole-ready p h whole = whole-stands p h p.stage h.stands whole
+
+-- the packet is taken out
+abbrev pub emptied : Progress → ℕ → Vec ℕ → Progress
+emptied p place payload = record p { want = Exactly (id_after p.last); next = Exactly (id_after p.last); start = place; full = 0; seen = 0; payload = payload; stage = Header }
+
+pub emptied-is : (p : Progress) (place : ℕ) (payload : Vec ℕ) → payload.items ≡ [] →
+    framing (emptied p place payload) ≡ record { limit = p.limit; want = Exactly (id_after p.last); start = place; held = [] }
+unfolding full_pieces
+emptied-is p place payload none = ap (λ xs. record { limit = p.limit; want = Exactly (id_after p.last); start = place; held = xs }) none
+
+pub emptied-sound : (p : Progress) (place : ℕ) (payload : Vec ℕ) → IsProgress p → payload.items ≡ [] → place ≤ 2 ^ 63 → IsProgress (emptied p place payload)
+unfolding full_pieces
+emptied-sound p place payload h none in_place = record {
+    four = h.four; seen_in = omega arith; begins = tt; next_is = refl; enough = omega arith; fits = omega arith; bounded = h.bounded;
+    in_place = subst (λ v. place_of v ≤ 2 ^ 63) (sym (emptied-is p place payload none)) (omega arith);
+    stands = (omega arith, ap length none);
+}
+
+pub takes-packet : (p : Progress) (bytes : List ℕ) (place : ℕ) (payload : Vec ℕ) → IsProgress p → p.stage ≡ Ready →
+    bytes ≡ p.payload.items → place ≡ place_of (framing p) → payload.items ≡ [] →
+    TakesPacket (framing p) (record { first = p.first; last = p.last; at = p.start; payload = bytes }) (framing (emptied p place payload))
+takes-packet p bytes place payload h at_ready all place_is none =
+    let at_end = subst (Stands p) at_ready h.stands in
+    record {
+        whole = found-ready p at_end.0 h at_end.1 at_end.2 at_end.3 ∙ ap (λ xs. Whole p.first p.last xs []) (sym all);
+        is_packet = subst (λ xs. IsPacket p.limit p.want p.first p.last xs (framing p).held) (sym all) (packet-ready p at_end.0 h at_end.1 at_end.2 at_end.3);
+        at_start = refl;
+        next_is = emptied-is p place payload none
+            ∙ ap (λ n. record { limit = p.limit; want = Exactly (id_after p.last); start = n; held = [] }) place_is;
+    }
+
+-- a fault was found where nothing more is read for that
+pub fault-stands : (p : Progress) → IsProgress p → (fault : FrameFault) → found (framing p) ≡ Fault fault → (stage : Stage) → Stands p stage → stage ≡ Failed fault
+fault-stands p h fault shown Header at_rest = let is = found-header p h at_rest.0 at_rest.1 in cc
+fault-stands p h fault shown (Payload size) at_part = let is = found-payload p size h at_part.0 at_part.1 in cc
+fault-stands p h fault shown Ready at_end = let is = found-ready p at_end.0 h at_end.1 at_end.2 at_end.3 in cc
+fault-stands p h fault shown (Failed other) at_fault = let is = front-fault p.limit p.want p.start other (framing p).held at_fault.2 in cc
+
+pub fault-stage : (p : Progress) → IsProgress p → (fault : FrameFault) → found (framing p) ≡ Fault fault → p.stage ≡ Failed fault
+fault-stage p h fault shown = fault-stands p h fault shown p.stage h.stands
+
+-- at least one byte is missing
+pub missing-more : (room : ℕ) (want : Want) (missing : ℕ) (present : List ℕ) → IsCut room want missing present → 0 < missing
+missing-more room want missing present cut = elim cut [
+    | inl short ↦ omega (arith, short.0, short.1)
+    | inr (size, id, some, is, in_range, wanted, fits, less, missing_is) ↦ omega (arith, less, missing_is)
+    ]
+
+pub fault-length : (limit : ℕ) (want : Want) (place : ℕ) (fault : FrameFault) (bytes : List ℕ) → IsFault limit want place fault bytes → 4 ≤ length bytes
+fault-length limit want place fault bytes shown =
+    omega (arith, ap length shown.laid_out, length-append shown.before (header shown.size shown.id ++ shown.behind))
+
+-- nothing is taken exactly where there is nothing to take, or a packet waits
+pub takes-nothing : (old : Framing) (f : Front) → found old ≡ f → IsFront old.limit old.want old.start old.held f → (piece : List ℕ) (count : ℕ) (new : Framing) → Takes old piece count new →
+    (count ≡ 0) ↔ ((piece ≡ []) ⊎ IsWhole f)
+takes-nothing old (Whole first last payload behind) is reading piece count new takes =
+    let none : count ≡ 0 = takes.counted ∙ ap (λ f. length (take (missing_of f) piece)) is in
+    (λ _. inr tt, λ _. none)
+takes-nothing old (Part missing) is reading piece count new takes =
+    let some = missing-more (old.limit - reading.total) reading.next missing reading.present reading.cut in
+    let count_is : count ≡ min missing (length piece) = takes.counted ∙ ap (λ f. length (take (missing_of f) piece)) is ∙ length-take missing piece in
+    (λ none. inl (nil_from_length piece (omega arith)), λ either. elim either [ inl empty ↦ omega (arith, ap length empty) | inr whole ↦ absurd whole ])
+takes-nothing old (Fault fault) is reading piece count new takes =
+    let same : new ≡ old = takes.grown ∙ sym (nothing-taken old piece fault is) in
+    absurd (subst IsSound (ap found same ∙ is) takes.sound)
+
+pub expects : (p : Progress) (want : Want) → IsProgress p → (stage : Stage) → Stands p stage → (IsWhole (found (framing p)) → ⊥) → held_length (framing p) ≡ 0 →
+    record (framing p) { want = want } ≡ expecting (found (framing p)) (framing p) want
+expects p want h Header at_rest more none = sym (ap (λ f. expecting f (framing p) want) (found-header p h at_rest.0 at_rest.1))
+expects p want h (Payload size) at_part more none = sym (ap (λ f. expecting f (framing p) want) (found-payload p size h at_part.0 at_part.1))
+expects p want h Ready at_end more none = absurd (more (subst IsWhole (sym (found-ready p at_end.0 h at_end.1 at_end.2 at_end.3)) tt))
+expects p want h (Failed fault) at_fault more none =
+    let is = front-fault p.limit p.want p.start fault (framing p).held at_fault.2 in
+    let taken : length (framing p).held ≡ 0 = sym (ap (λ f. unfinished_length f (length (framing p).held)) is) ∙ none in
+    absurd (omega (arith, taken, fault-length p.limit p.want p.start fault (framing p).held at_fault.2))

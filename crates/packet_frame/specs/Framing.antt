@@ -1,9 +1,12 @@
 -- Where a reader of a stream stands: what it has taken since the last packet, and what that gives.
-use Rattle.std.specs.Prelude.{◌≡◌, ℕ, ◌+◌, Bool, true, false, List, ◌++◌, length, take, Result, Ok, Err}
+use Rattle.std.specs.Prelude.{◌≡◌, ℕ, ◌+◌, Bool, true, false, List, [], ◌++◌, length, take, Result, Ok, Err}
 use Rattle.packet_frame.specs.declared.packets.Want.{Want}
 use Rattle.packet_frame.specs.declared.packets.FrameFault.{FrameFault}
 use Rattle.packet_frame.specs.declared.packets.FrameFault.TheVariants.{TooLarge, OutOfOrder, Memory}
-use Rattle.packet_frame.specs.Front.{Front, Whole, Part, Fault, front}
+use Rattle.packet_frame.specs.declared.packets.Want.TheVariants.{Exactly}
+use Rattle.packet_frame.specs.declared.packets.Packet.{Packet}
+use Rattle.packet_frame.specs.Packets.{id_after, IsPacket}
+use Rattle.packet_frame.specs.Front.{Front, Whole, Part, Fault, front, IsFront}
 
 -- the greatest payload that is taken, which first id the present packet must have, the place of its first
 -- byte in the stream, and the bytes taken from there on
@@ -20,6 +23,19 @@ place_of v = v.start + length v.held
 -- what the bytes taken since the last packet are
 abbrev pub found : Framing → Front
 found v = front v.limit v.want v.start v.held
+
+-- they are a packet, less than one, or show a fault
+abbrev pub IsReading : Framing → Type 0
+IsReading v = IsFront v.limit v.want v.start v.held (found v)
+
+-- how many bytes of an unfinished packet were taken
+abbrev pub unfinished_length : Front → ℕ → ℕ
+unfinished_length (Whole first last payload behind) taken = 0
+unfinished_length (Part missing) taken = taken
+unfinished_length (Fault fault) taken = taken
+
+abbrev pub held_length : Framing → ℕ
+held_length v = unfinished_length (found v) (length v.held)
 
 -- further bytes taken
 abbrev pub fed : Framing → List ℕ → Framing
@@ -57,3 +73,16 @@ abbrev pub Refuses : Framing → List ℕ → FrameFault → Framing → Type 0
 Refuses old piece Memory new = new ≡ old
 Refuses old piece (TooLarge at) new = (new ≡ fed old (due old piece)) × (found new ≡ Fault (TooLarge at))
 Refuses old piece (OutOfOrder at want got) new = (new ≡ fed old (due old piece)) × (found new ≡ Fault (OutOfOrder at want got))
+
+-- the packet is taken out of a reader: the next one is wanted with the id after its last one
+pub record TakesPacket (old : Framing) (packet : Packet) (new : Framing) : Type 0 where
+  pub whole : found old ≡ Whole packet.first packet.last packet.payload []
+  pub is_packet : IsPacket old.limit old.want packet.first packet.last packet.payload old.held
+  pub at_start : packet.at ≡ old.start
+  pub next_is : new ≡ record { limit = old.limit; want = Exactly (id_after packet.last); start = place_of old; held = [] }
+
+-- another id is wanted next; a whole packet that still waits decides it itself
+abbrev pub expecting : Front → Framing → Want → Framing
+expecting (Whole first last payload behind) v want = v
+expecting (Part missing) v want = record v { want = want }
+expecting (Fault fault) v want = v

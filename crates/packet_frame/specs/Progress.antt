@@ -5,9 +5,8 @@ use Rattle.packet_frame.specs.declared.packets.FrameFault.{FrameFault}
 use Rattle.packet_frame.specs.declared.progress.Stage.{Stage}
 use Rattle.packet_frame.specs.declared.progress.Stage.TheVariants.{Header, Payload, Ready, Failed}
 use Rattle.packet_frame.specs.declared.progress.Progress.{Progress}
-use Rattle.packet_frame.specs.Packets.{full_size, id_at, header, laid, Wants, Begins, want_after}
-use Rattle.packet_frame.specs.Front.{Fault}
-use Rattle.packet_frame.specs.Framing.{Framing, place_of, found}
+use Rattle.packet_frame.specs.Packets.{full_size, id_at, header, laid, Wants, Begins, want_after, IsFault}
+use Rattle.packet_frame.specs.Framing.{Framing, place_of}
 
 -- the first so many full pieces of a payload
 unfoldable pub full_pieces : ℕ → List ℕ → List (List ℕ)
@@ -47,7 +46,7 @@ abbrev pub Stands : Progress → Stage → Type 0
 Stands p Header = (p.seen < 4) × (length p.payload.items ≡ p.full * full_size)
 Stands p (Payload size) = IsAdmitted p size × (length p.payload.items < p.full * full_size + size)
 Stands p Ready = (size : ℕ) × IsAdmitted p size × (size < full_size) × (length p.payload.items ≡ p.full * full_size + size)
-Stands p (Failed fault) = (p.seen ≡ 4) × (length p.payload.items ≡ p.full * full_size) × (found (framing p) ≡ Fault fault)
+Stands p (Failed fault) = (p.seen ≡ 4) × (length p.payload.items ≡ p.full * full_size) × IsFault p.limit p.want p.start fault (framing p).held
 
 -- what always holds of the fields
 pub record IsProgress (p : Progress) : Type 0 where

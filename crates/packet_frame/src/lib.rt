@@ -7,7 +7,9 @@
 //! MySQL client/server protocol documentation, "MySQL Packets" and "Sending More Than 16Mb".
 #![tactic(auto)]
 
+pub mod frames;
 pub mod packets;
 mod progress;
 
+pub use frames::Frames;
 pub use packets::{FrameFault, Packet, Want};

@@ -2,13 +2,16 @@
 //!
 //! MySQL client/server protocol documentation, "MySQL Packets" and "Sending More Than 16Mb".
 
-ghost use Rattle.packet_frame.specs.Framing.{place_of, found, IsSound, Takes, Refuses};
+ghost use Rattle.packet_frame.specs.Framing.{place_of, held_length, found, expecting, IsSound, IsWhole, IsReading, Takes, Refuses, TakesPacket};
+ghost use Rattle.packet_frame.specs.Front.{Fault};
 ghost use Rattle.packet_frame.specs.Packets.{full_size, laid, header as header_bytes, Wants, IsRefused};
 ghost use Rattle.packet_frame.specs.Progress.{framing, done, header_place, IsProgress, IsBetween};
-ghost use Rattle.std.specs.Prelude.{◌≡◌, ℕ, ◌+◌, ◌-◌, ◌*◌, ◌^◌, ◌<◌, ◌≤◌, ◌++◌, [], length, take, IfOk, IfErr, OnOk};
+ghost use Rattle.std.specs.Prelude.{◌≡◌, ℕ, ◌+◌, ◌-◌, ◌*◌, ◌^◌, ◌<◌, ◌≤◌, ◌++◌, [], length, take, IfOk, IfErr, IfSome, IfNone, IsTrue, ◌↔◌};
 
-use crate::packets::{FrameFault, Want};
+use crate::packets::{FrameFault, Packet, Want};
+use lg_base::Bytes;
 use std::alloc::Global;
+use std::mem;
 
 /// A piece with so many bytes of payload is continued by the next one.
 const FULL: usize = 16_777_215;
@@ -236,12 +239,84 @@ impl Progress {
         ensures sound { IsProgress self.new }
         ensures ok { IfOk result (λ count. Takes (framing self.old) piece.now count (framing self.new)) }
         ensures err { IfErr result (λ fault. Refuses (framing self.old) piece.now fault (framing self.new)) }
+        ensures again { (fault : FrameFault) → found (framing self.old) ≡ Fault fault → (result ≡ Err fault) × (framing self.new ≡ framing self.old) }
     {
         match self.stage {
             Stage::Header => self.take_header(piece),
             Stage::Payload { size } => self.take_payload(size, piece),
             Stage::Ready => Ok(0),
             Stage::Failed(fault) => Err(fault),
+        }
+    }
+
+    /// How many bytes of the stream were read.
+    pub fn place(&self) -> u64
+        requires { IsProgress self.now }
+        ensures value { result ≡ place_of (framing self.now) }
+        ensures reading { IsReading (framing self.now) }
+    {
+        self.header_place() + self.seen as u64 + (self.payload.len() - self.full * FULL) as u64
+    }
+
+    /// Whether the packet is whole.
+    pub fn is_ready(&self) -> bool
+        requires { IsProgress self.now }
+        ensures whole { IsTrue result ↔ IsWhole (found (framing self.now)) }
+        ensures stage { IsTrue result → self.now.stage ≡ Stage.Ready }
+        ensures reading { IsReading (framing self.now) }
+    {
+        matches!(self.stage, Stage::Ready)
+    }
+
+    /// The whole packet, if there is one. The next one is wanted with the id after its last one.
+    pub fn take(&mut self, alloc: Global) -> Option<Packet>
+        requires { IsProgress self.old }
+        ensures sound { IsProgress self.new }
+        ensures none { IfNone result ((self.new ≡ self.old) × (IsWhole (found (framing self.old)) → ⊥)) }
+        ensures some { IfSome result (λ packet. TakesPacket (framing self.old) packet (framing self.new)) }
+    {
+        if !self.is_ready() {
+            return None;
+        }
+        let place = self.place();
+        let packet = Packet {
+            first: self.first,
+            last: self.last,
+            at: self.start,
+            payload: Bytes::from_vec(mem::replace(&mut self.payload, Vec::new(alloc))),
+        };
+        self.want = Want::Exactly(self.last.wrapping_add(1));
+        self.next = self.want;
+        self.start = place;
+        self.full = 0;
+        self.seen = 0;
+        self.stage = Stage::Header;
+        Some(packet)
+    }
+
+    /// How many bytes of an unfinished packet were read.
+    pub fn held(&self) -> u64
+        requires { IsProgress self.now }
+        ensures length { result ≡ held_length (framing self.now) }
+        ensures reading { IsReading (framing self.now) }
+    {
+        if self.is_ready() {
+            0
+        } else {
+            self.place() - self.start
+        }
+    }
+
+    /// Sets which id the next packet must begin with.
+    pub fn expect(&mut self, want: Want)
+        requires sound { IsProgress self.old }
+        requires between { held_length (framing self.old) ≡ 0 }
+        ensures sound { IsProgress self.new }
+        ensures wanted { framing self.new ≡ expecting (found (framing self.old)) (framing self.old) want }
+    {
+        if !self.is_ready() {
+            self.want = want;
+            self.next = want;
         }
     }
 }
