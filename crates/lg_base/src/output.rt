@@ -2,7 +2,7 @@
 //! MySQL client/server protocol documentation lays them out.
 
 ghost use Rattle.lg_base.specs.Fields.{lenenc_text, little_text};
-ghost use Rattle.std.specs.Prelude.{◌≡◌, ◌<◌, [], ◌∷◌, ◌++◌, OnOk, OnErr, Contains};
+ghost use Rattle.std.specs.Prelude.{◌≡◌, ◌<◌, [], ◌∷◌, ◌++◌, OnOk, OnErr, Contains, take};
 
 use crate::allocation::Memory;
 use crate::byte_list::Bytes;
@@ -119,6 +119,13 @@ impl Out {
             return Err(Memory);
         }
         Ok(())
+    }
+
+    /// Drops all but the first `length` bytes.
+    pub fn truncate(&mut self, length: usize)
+        ensures { self.new ≡ take length self.old }
+    {
+        self.written.truncate(length);
     }
 
     /// What was written.

@@ -4,3 +4,6 @@ pub mod Shown
 pub mod Pieces
 pub mod Standing
 pub mod Steps
+pub mod Written
+pub mod Streams
+pub mod Longer

@@ -57,3 +57,9 @@ IsFront limit want place bytes (Whole first last payload behind) =
     (head : List ℕ) × (bytes ≡ head ++ behind) × IsPacket limit want first last payload head
 IsFront limit want place bytes (Part missing) = IsUnfinished limit want missing bytes
 IsFront limit want place bytes (Fault fault) = IsFault limit want place fault bytes
+
+-- with further bytes behind it a packet stays that packet, and a fault stays that fault
+abbrev pub StaysWith : List ℕ → Front → Front → Type 0
+StaysWith more (Whole first last payload behind) longer = longer ≡ Whole first last payload (behind ++ more)
+StaysWith more (Part missing) longer = Unit {0}
+StaysWith more (Fault fault) longer = longer ≡ Fault fault

@@ -113,3 +113,19 @@ pub record IsUnfinished (limit : ℕ) (want : Want) (missing : ℕ) (bytes : Lis
   pub present : List ℕ
   pub laid_out : bytes ≡ before ++ present
   pub cut : IsCut (limit - total) next missing present
+
+-- the packet with this payload and first id is added at the end, and the id after its last one is given
+pub record WritesPacket (first : ℕ) (payload : List ℕ) (next : ℕ) (old new : List ℕ) : Type 0 where
+  pub text : List ℕ
+  pub last : ℕ
+  pub added : new ≡ old ++ text
+  pub packet : IsPacket (length payload) (Exactly first) first last payload text
+  pub next_is : next ≡ id_after last
+
+-- full pieces from the front of a payload were added at the end; an id and a rest of the payload are left
+pub record WritesPieces (first : ℕ) (payload : List ℕ) (id : ℕ) (rest : List ℕ) (old new : List ℕ) : Type 0 where
+  pub full : List (List ℕ)
+  pub each_full : AllFull full
+  pub split : payload ≡ concat full ++ rest
+  pub id_is : id ≡ id_at first (length full)
+  pub added : new ≡ old ++ laid first full

@@ -10,6 +10,8 @@
 pub mod frames;
 pub mod packets;
 mod progress;
+pub mod writing;
 
 pub use frames::Frames;
 pub use packets::{FrameFault, Packet, Want};
+pub use writing::write_packet;
