@@ -1,16 +1,27 @@
 -- A stream has one reading, and a reader that is fed its pieces gives that.
 use Rattle.std.proofs.Common.{◌≡◌, ◌≢◌, ℕ, zero, suc, ◌+◌, ◌-◌, ◌<◌, ◌≤◌, List, [], ◌∷◌, ◌++◌, length, take, refl, sym, ap, ◌∙◌, subst, inl, inr, arith, length-append, append_assoc, append-nil}
-use Rattle.std.proofs.lemmas.List.{take_min, length-take}
+use Rattle.std.specs.Prelude.{All}
+use Rattle.std.proofs.Common.{get_or}
+use Rattle.std.proofs.lemmas.List.{take_min, length-take, get_or-append-add}
 use Rattle.packet_frame.specs.declared.packets.Want.{Want}
 use Rattle.packet_frame.specs.declared.packets.Want.TheVariants.{Exactly}
 use Rattle.packet_frame.specs.declared.packets.Packet.{Packet}
 use Rattle.packet_frame.specs.declared.packets.FrameFault.{FrameFault}
-use Rattle.packet_frame.specs.Packets.{id_after, header, IsPacket, IsFault, IsUnfinished}
+use Rattle.packet_frame.specs.Packets.{id_after, id_at, header, laid, Wants, IsPacket, IsFault, IsUnfinished}
 use Rattle.packet_frame.specs.Front.{Front, Whole, Part, Fault, front, IsFront}
 use Rattle.packet_frame.specs.Framing.{Framing, found, fed, missing_of, due, place_of, TakesPacket}
 use Rattle.packet_frame.specs.Streams.{Ending, Between, Cut, Faulty, IsEnding, AreLaid, IsStream, HasGiven, Move, Feeds, Gives, bytes_of, packets_of, IsRun}
 use Rattle.packet_frame.proofs.Fronts.{front-short}
 use Rattle.packet_frame.proofs.Readings.{front-packet, front-fault, front-unfinished}
+use Rattle.packet_frame.proofs.Readings.{laid-push as laid-push-end}
+use Rattle.packet_frame.proofs.Shown.{seen}
+
+-- a packet with at most so many bytes and an id that is wanted, of a packet that fits another limit
+pub packet-fits : (limit fits : ℕ) (want wanted : Want) (first last : ℕ) (payload text : List ℕ) → IsPacket fits wanted first last payload text → Wants want first → length payload ≤ limit →
+    IsPacket limit want first last payload text
+packet-fits limit fits want wanted first last payload text is wants less = record {
+    full = is.full; ending = is.ending; each_full = is.each_full; not_full = is.not_full; laid_out = is.laid_out; joined = is.joined; wanted = wants; ends_at = is.ends_at; fits = less;
+}
 
 -- what stands at the front where a stream ends
 abbrev pub IsEndFront : Ending → ℕ → Front → Type 0
@@ -195,3 +206,45 @@ run-given limit next want (Gives packet ∷ moves) bytes packets v w h (u, takes
     let now = given-taken limit next want bytes packets v packet u h takes in
     let rest = run-given limit next want moves bytes (packets ++ packet ∷ []) (record u { want = next packet.last }) w now run in
     subst (λ p. HasGiven limit next want (bytes ++ bytes_of moves) p w) (append_assoc packets (packet ∷ []) (packets_of moves)) rest
+
+pub packet-length : (limit : ℕ) (want : Want) (first last : ℕ) (payload bytes : List ℕ) → IsPacket limit want first last payload bytes → 4 ≤ length bytes
+packet-length limit want first last payload bytes is =
+    let tail = header (length is.ending) (id_at first (length is.full)) ++ is.ending in
+    omega (arith, ap length (is.laid_out ∙ laid-push-end first is.full is.ending), length-append (laid first is.full) tail)
+
+-- the stream that begins with what stands at the front
+pub seen-stream : (most : ℕ) (limit : ℕ) (next : ℕ → Want) (want : Want) (place x : ℕ) (xs : List ℕ) → length (x ∷ xs) ≤ suc most → All (λ y. y < 256) (x ∷ xs) →
+    (found : Front) → IsFront limit want place (x ∷ xs) found →
+    ((rest : List ℕ) → length rest ≤ most → All (λ y. y < 256) rest → (at : ℕ) (wanted : Want) →
+        (packets : List Packet) × (ending : Ending) × IsStream limit next wanted at rest packets ending) →
+    (packets : List Packet) × (ending : Ending) × IsStream limit next want place (x ∷ xs) packets ending
+seen-stream most limit next want place x xs h b (Whole first last payload behind) (head, split, is) goes_on =
+    let packet : Packet = record { first = first; last = last; at = place; payload = payload } in
+    let lengths = ap length split ∙ length-append head behind in
+    let after : All (λ y. y < 256) behind = λ k d l.
+        subst (λ y. y < 256) (ap (λ ys. get_or ys (length head + k) d) split ∙ get_or-append-add head behind k d) (b (length head + k) d (omega (arith, lengths, l))) in
+    let rest = goes_on behind (omega (arith, lengths, h, packet-length limit want first last payload head is)) after (place + length head) (next last) in
+    (packet ∷ rest.0, rest.1, (head, behind, split, refl, is, rest.2))
+seen-stream most limit next want place x xs h b (Part missing) part goes_on = ([], Cut place, (λ none. cc, refl, missing, part))
+seen-stream most limit next want place x xs h b (Fault fault) shown goes_on = ([], Faulty fault, shown)
+
+-- every list of bytes is a stream
+pub streams-seen : (most : ℕ) (limit : ℕ) (next : ℕ → Want) (want : Want) (place : ℕ) (bytes : List ℕ) → length bytes ≤ most → All (λ x. x < 256) bytes →
+    (packets : List Packet) × (ending : Ending) × IsStream limit next want place bytes packets ending
+streams-seen most limit next want place [] h b = ([], Between, refl)
+streams-seen zero limit next want place (_ ∷ _) h b = absurd (omega arith)
+streams-seen (suc most) limit next want place (x ∷ xs) h b =
+    let there = seen (length (x ∷ xs)) limit want place (x ∷ xs) (omega arith) b in
+    let goes_on : (rest : List ℕ) → length rest ≤ most → All (λ y. y < 256) rest → (at : ℕ) (wanted : Want) →
+            (packets : List Packet) × (ending : Ending) × IsStream limit next wanted at rest packets ending =
+        λ rest l bs at wanted. streams-seen most limit next wanted at rest l bs in
+    seen-stream most limit next want place x xs h b there.0 there.1 goes_on
+
+-- a reader from the start of a stream to its end
+pub run-stream : (limit : ℕ) (next : ℕ → Want) (want : Want) (moves : List Move) (v : Framing) (ending : Ending) →
+    IsRun next (record { limit = limit; want = want; start = 0; held = [] }) moves v → IsEnding v.limit v.want v.start v.held ending →
+    IsStream limit next want 0 (bytes_of moves) (packets_of moves) ending
+run-stream limit next want moves v ending run ends =
+    let start : Framing = record { limit = limit; want = want; start = 0; held = [] } in
+    given-ends limit next want (bytes_of moves) (packets_of moves) v ending
+        (run-given limit next want moves [] [] start v (given-nothing limit next want) run) ends

@@ -8,6 +8,7 @@
 #![tactic(auto)]
 
 pub mod frames;
+pub mod laws;
 pub mod packets;
 mod progress;
 pub mod writing;
