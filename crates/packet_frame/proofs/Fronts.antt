@@ -1,14 +1,12 @@
 -- The front of bytes, step by step: what a header, full pieces and the last piece give.
-use Rattle.std.proofs.Common.{◌≡◌, ◌≢◌, ℕ, zero, suc, ◌+◌, ◌-◌, ◌*◌, ◌/◌, ◌%◌, ◌<◌, ◌≤◌, ◌==◌, Bool, true, false, List, [], ◌∷◌, ◌++◌, length, take, drop, refl, sym, ap, ◌∙◌, arith, length-append, length-drop, append_assoc}
-use Rattle.std.specs.Prelude.{nat_lt, if◌then◌else◌}
+use Rattle.std.proofs.Common.{◌≡◌, ◌≢◌, ℕ, zero, suc, ◌+◌, ◌-◌, ◌/◌, ◌%◌, ◌<◌, ◌≤◌, List, [], ◌∷◌, ◌++◌, length, drop, refl, ap, ◌∙◌, arith, length-append, length-drop}
 use Rattle.std.proofs.lemmas.List.{take_at, drop_at}
 use Rattle.std.proofs.lemmas.Grind.{common_steps}
 use Rattle.lg_base.specs.Fields.{little, little_text}
 use Rattle.packet_frame.specs.declared.packets.Want.{Want}
 use Rattle.packet_frame.specs.declared.packets.Want.TheVariants.{Exactly, Any}
-use Rattle.packet_frame.specs.declared.packets.FrameFault.{FrameFault}
-use Rattle.packet_frame.specs.declared.packets.FrameFault.TheVariants.{TooLarge, OutOfOrder, Memory}
-use Rattle.packet_frame.specs.Packets.{full_size, id_after, id_at, header, laid, AllFull, Wants, Begins, want_after}
+use Rattle.packet_frame.specs.declared.packets.FrameFault.TheVariants.{TooLarge, OutOfOrder}
+use Rattle.packet_frame.specs.Packets.{full_size, id_after, header, Wants}
 use Rattle.packet_frame.specs.Front.{Front, Whole, Part, Fault, continued, sized, headed, front_within, front}
 
 -- three bytes of a number below 2 ^ 24 stand for it

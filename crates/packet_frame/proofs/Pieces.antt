@@ -1,8 +1,8 @@
 -- The full pieces of a payload that grows.
-use Rattle.std.proofs.Common.{◌≡◌, ℕ, zero, suc, ◌+◌, ◌-◌, ◌*◌, ◌<◌, ◌≤◌, List, [], ◌∷◌, ◌++◌, length, take, drop, refl, sym, ap, ◌∙◌, arith, length-append, length-drop, append_assoc, append-nil}
+use Rattle.std.proofs.Common.{◌≡◌, ℕ, zero, suc, ◌+◌, ◌-◌, ◌*◌, ◌≤◌, List, [], ◌∷◌, ◌++◌, length, take, drop, refl, sym, ap, ◌∙◌, arith, length-append, length-drop, append_assoc}
 use Rattle.std.specs.List.{concat}
-use Rattle.std.proofs.lemmas.List.{length-take-le, take-append-le, drop-append-le, drop-drop, take-append-drop, drop_all, take_all}
-use Rattle.packet_frame.specs.Packets.{full_size, id_after, id_at, header, laid, AllFull}
+use Rattle.std.proofs.lemmas.List.{length-take-le, take-append-le, drop-append-le, drop-drop, take-append-drop, take_all}
+use Rattle.packet_frame.specs.Packets.{full_size, id_after, id_at, laid, AllFull}
 use Rattle.packet_frame.specs.Progress.{full_pieces}
 
 pub length-laid : (id : ℕ) (full : List (List ℕ)) → AllFull full → length (laid id full) ≡ length full * 16777219

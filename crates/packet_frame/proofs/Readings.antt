@@ -1,14 +1,13 @@
 -- What the definitions say of the front of bytes is what is computed of it.
-use Rattle.std.proofs.Common.{◌≡◌, ◌≢◌, ℕ, zero, suc, ◌+◌, ◌-◌, ◌*◌, ◌/◌, ◌%◌, ◌<◌, ◌≤◌, ◌⊎◌, List, [], ◌∷◌, ◌++◌, length, take, drop, refl, sym, ap, ◌∙◌, inl, inr, arith, length-append, length-drop, append_assoc, append-nil}
-use Rattle.std.proofs.lemmas.List.{drop_at, take_at}
+use Rattle.std.proofs.Common.{◌≡◌, ℕ, suc, ◌+◌, ◌-◌, ◌<◌, ◌≤◌, List, [], ◌∷◌, ◌++◌, length, drop, refl, sym, ap, ◌∙◌, inl, inr, arith, length-append, append_assoc, append-nil}
+use Rattle.std.proofs.lemmas.List.{drop_at}
 use Rattle.std.specs.List.{concat}
-use Rattle.std.proofs.lemmas.Grind.{common_steps}
 use Rattle.packet_frame.specs.declared.packets.Want.{Want}
-use Rattle.packet_frame.specs.declared.packets.Want.TheVariants.{Exactly, Any}
+use Rattle.packet_frame.specs.declared.packets.Want.TheVariants.{Exactly}
 use Rattle.packet_frame.specs.declared.packets.FrameFault.{FrameFault}
 use Rattle.packet_frame.specs.declared.packets.FrameFault.TheVariants.{TooLarge, OutOfOrder, Memory}
 use Rattle.packet_frame.specs.Packets.{full_size, id_after, id_at, header, laid, AllFull, Wants, Begins, want_after, IsPacket, IsBegun, IsRefused, IsFault, IsCut, IsUnfinished}
-use Rattle.packet_frame.specs.Front.{Front, Whole, Part, Fault, continued, sized, headed, front, IsFront}
+use Rattle.packet_frame.specs.Front.{Front, Whole, Part, Fault, continued, front, IsFront}
 use Rattle.packet_frame.proofs.Fronts.{front-short, front-header, headed-wanted, headed-other, sized-large, sized-part, sized-full, sized-whole}
 
 -- one more piece at the end

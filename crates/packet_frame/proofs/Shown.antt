@@ -1,17 +1,17 @@
 -- Every list of bytes has a packet, less than one, or a fault at its front, and what is computed is that.
-use Rattle.std.proofs.Common.{◌≡◌, ◌≢◌, ℕ, zero, suc, ◌+◌, ◌-◌, ◌*◌, ◌/◌, ◌%◌, ◌<◌, ◌≤◌, ◌⊎◌, List, [], ◌∷◌, ◌++◌, length, take, drop, refl, sym, ap, ◌∙◌, subst, inl, inr, arith, length-append, length-drop, append_assoc, append-nil}
+use Rattle.std.proofs.Common.{◌≡◌, ◌≢◌, ℕ, zero, suc, ◌+◌, ◌-◌, ◌/◌, ◌%◌, ◌<◌, ◌≤◌, ◌⊎◌, List, [], ◌∷◌, ◌++◌, length, take, drop, refl, sym, ap, ◌∙◌, subst, inl, inr, arith, length-append, length-drop, append_assoc, append-nil}
 use Rattle.std.specs.Prelude.{All}
 use Rattle.std.specs.List.{concat}
 use Rattle.std.proofs.lemmas.Bool.{cases_eq, cases_lt}
 use Rattle.std.proofs.lemmas.List.{take-append-drop, length-take-le, get_or-drop}
-use Rattle.lg_base.specs.Fields.{little, little_text}
+use Rattle.lg_base.specs.Fields.{little}
 use Rattle.packet_frame.specs.declared.packets.Want.{Want}
 use Rattle.packet_frame.specs.declared.packets.Want.TheVariants.{Exactly, Any}
 use Rattle.packet_frame.specs.declared.packets.FrameFault.{FrameFault}
-use Rattle.packet_frame.specs.declared.packets.FrameFault.TheVariants.{TooLarge, OutOfOrder, Memory}
-use Rattle.packet_frame.specs.Packets.{full_size, id_after, id_at, header, laid, AllFull, Wants, Begins, want_after, IsPacket, IsBegun, IsRefused, IsFault, IsCut, IsUnfinished}
+use Rattle.packet_frame.specs.declared.packets.FrameFault.TheVariants.{TooLarge, OutOfOrder}
+use Rattle.packet_frame.specs.Packets.{full_size, id_after, id_at, header, laid, Wants, Begins, want_after, IsPacket, IsBegun, IsRefused, IsFault, IsCut, IsUnfinished}
 use Rattle.packet_frame.specs.Front.{Front, Whole, Part, Fault, continued, front, IsFront}
-use Rattle.packet_frame.proofs.Readings.{begins-wanted, front-only}
+use Rattle.packet_frame.proofs.Readings.{front-only}
 
 -- a header's bytes are those of the length that they stand for
 pub header_is : (a b c id : ℕ) → a < 256 → b < 256 → c < 256 → a ∷ b ∷ c ∷ id ∷ [] ≡ header (little (a ∷ b ∷ c ∷ [])) id
@@ -139,21 +139,23 @@ seen-short limit want place bytes h =
     (Part (4 - length bytes),
     record { before = []; total = 0; next = want; begun = begun-none limit want; present = bytes; laid_out = refl; cut = inl (h, omega arith) })
 
+pub seen-refused : (limit : ℕ) (want : Want) (place size id : ℕ) (behind : List ℕ) (fault : FrameFault) → size < 16777216 → IsRefused limit want place size id fault →
+    (found : Front) × IsFront limit want place (header size id ++ behind) found
+seen-refused limit want place size id behind fault in_range refused =
+    let at_place = subst (λ at. IsRefused limit want at size id fault) (omega arith) refused in
+    let in_room = subst (λ room. IsRefused room want (place + 0) size id fault) (omega arith) at_place in
+    (Fault fault,
+    record { before = []; total = 0; next = want; begun = begun-none limit want; size = size; id = id; behind = behind; laid_out = refl; in_range = in_range; refused = in_room })
+
 pub seen-header : (limit : ℕ) (want : Want) (place size id : ℕ) (behind : List ℕ) → size < 16777216 →
     ((size ≤ limit) → (size ≤ length behind) → (found : Front) × IsFront (limit - size) (Exactly (id_after id)) (place + 4 + size) (drop size behind) found) →
     (found : Front) × IsFront limit want place (header size id ++ behind) found
 seen-header limit want place size id behind in_range seen =
     let begun = begun-none limit want in
-    let refusal = λ (fault : FrameFault) (refused : IsRefused limit want place size id fault).
-        let at_place = subst (λ at. IsRefused limit want at size id fault) (omega arith) refused in
-        let in_room = subst (λ room. IsRefused room want (place + 0) size id fault) (omega arith) at_place in
-        let shown : IsFault limit want place fault (header size id ++ behind) =
-            record { before = []; total = 0; next = want; begun = begun; size = size; id = id; behind = behind; laid_out = refl; in_range = in_range; refused = in_room } in
-        let found : (found : Front) × IsFront limit want place (header size id ++ behind) found = (Fault fault, shown) in found in
     elim (wants_or_not want id) [
-    | inr (wanted, exactly, other) ↦ refusal (OutOfOrder place wanted id) (refl, exactly, refl, other)
+    | inr (wanted, exactly, other) ↦ seen-refused limit want place size id behind (OutOfOrder place wanted id) in_range (refl, exactly, refl, other)
     | inl w ↦ elim (cases_lt limit size) [
-        | inl large ↦ refusal (TooLarge place) (refl, w, large)
+        | inl large ↦ seen-refused limit want place size id behind (TooLarge place) in_range (refl, w, large)
         | inr fits ↦ elim (cases_lt (length behind) size) [
             | inl less ↦
                 (Part (size - length behind),

@@ -1,16 +1,14 @@
 -- What the fields of a reader stand for, by what is read next.
-use Rattle.std.proofs.Common.{◌≡◌, ℕ, zero, suc, ◌+◌, ◌-◌, ◌*◌, ◌<◌, ◌≤◌, List, [], ◌∷◌, ◌++◌, length, take, drop, refl, sym, ap, ◌∙◌, subst, inl, inr, arith, length-append, length-drop, append_assoc, append-nil}
-use Rattle.std.specs.List.{concat}
-use Rattle.std.proofs.lemmas.List.{length-take-le, drop_all, take_all}
-use Rattle.packet_frame.specs.declared.packets.Want.{Want}
+use Rattle.std.proofs.Common.{◌≡◌, ℕ, ◌+◌, ◌-◌, ◌*◌, ◌<◌, List, [], ◌∷◌, ◌++◌, length, take, refl, sym, ap, ◌∙◌, subst, inl, inr, arith, length-append, length-drop, append_assoc, append-nil}
+use Rattle.std.proofs.lemmas.List.{length-take-le, take_all}
 use Rattle.packet_frame.specs.declared.packets.FrameFault.{FrameFault}
 use Rattle.packet_frame.specs.declared.progress.Progress.{Progress}
 use Rattle.packet_frame.specs.declared.progress.Stage.{Stage}
 use Rattle.packet_frame.specs.declared.progress.Stage.TheVariants.{Header, Payload, Ready, Failed}
-use Rattle.packet_frame.specs.Packets.{full_size, id_after, id_at, header, laid, Wants, Begins, want_after, IsPacket, IsBegun, IsRefused, IsFault, IsUnfinished}
-use Rattle.packet_frame.specs.Front.{Front, Whole, Part, Fault, front, IsFront}
-use Rattle.packet_frame.specs.Framing.{Framing, found, IsReading}
-use Rattle.packet_frame.specs.Progress.{full_pieces, present, done, framing, header_place, IsAdmitted, Stands, IsProgress}
+use Rattle.packet_frame.specs.Packets.{full_size, id_at, header, laid, Wants, want_after, IsPacket, IsBegun, IsRefused, IsFault, IsUnfinished}
+use Rattle.packet_frame.specs.Front.{Whole, Part, front, IsFront}
+use Rattle.packet_frame.specs.Framing.{found, IsReading}
+use Rattle.packet_frame.specs.Progress.{present, done, framing, header_place, IsAdmitted, Stands, IsProgress}
 use Rattle.packet_frame.proofs.Readings.{front-packet, front-fault, front-unfinished, want_after-wanted, concat-push, laid-push}
 use Rattle.packet_frame.proofs.Pieces.{length-full_pieces, full_pieces-full, concat-full_pieces, length-concat-full_pieces}
 

@@ -1,5 +1,5 @@
 -- What each step of a reader leaves.
-use Rattle.std.proofs.Common.{◌≡◌, ℕ, zero, suc, ◌+◌, ◌-◌, ◌*◌, ◌^◌, ◌<◌, ◌≤◌, ◌↔◌, ◌⊎◌, List, [], ◌∷◌, ◌++◌, length, take, drop, min, refl, sym, ap, ◌∙◌, subst, inl, inr, arith, length-append, length-drop, append_assoc, append-nil}
+use Rattle.std.proofs.Common.{◌≡◌, ℕ, zero, suc, ◌+◌, ◌-◌, ◌*◌, ◌^◌, ◌<◌, ◌≤◌, ◌↔◌, ◌⊎◌, List, [], ◌∷◌, ◌++◌, length, take, drop, min, refl, sym, ap, ◌∙◌, subst, inl, inr, arith, length-append, length-drop, append-nil}
 use Rattle.std.specs.Global.{Vec}
 use Rattle.std.proofs.lemmas.Bool.{cases_lt}
 use Rattle.std.proofs.lemmas.List.{length-take-le, drop_all, take_all, take_min, drop-append-le, length-take, nil_from_length}
@@ -7,12 +7,11 @@ use Rattle.packet_frame.specs.declared.packets.Want.{Want}
 use Rattle.packet_frame.specs.declared.packets.Want.TheVariants.{Exactly}
 use Rattle.packet_frame.specs.declared.packets.FrameFault.{FrameFault}
 use Rattle.packet_frame.specs.declared.packets.FrameFault.TheVariants.{TooLarge, OutOfOrder, Memory}
-use Rattle.packet_frame.specs.declared.packets.Packet.{Packet}
 use Rattle.packet_frame.specs.declared.progress.Progress.{Progress}
 use Rattle.packet_frame.specs.declared.progress.Stage.{Stage}
 use Rattle.packet_frame.specs.declared.progress.Stage.TheVariants.{Header, Payload, Ready, Failed}
 use Rattle.packet_frame.specs.Packets.{full_size, id_after, id_at, header, laid, Wants, Begins, want_after, IsPacket, IsRefused, IsFault, IsCut}
-use Rattle.packet_frame.specs.Front.{Front, Whole, Part, Fault, front, IsFront}
+use Rattle.packet_frame.specs.Front.{Front, Whole, Part, Fault, IsFront}
 use Rattle.packet_frame.specs.Framing.{Framing, place_of, found, unfinished_length, held_length, expecting, fed, missing_of, due, IsSound, IsWhole, Takes, Refuses, TakesPacket}
 use Rattle.packet_frame.specs.Progress.{full_pieces, present, done, framing, header_place, IsAdmitted, Stands, IsProgress, IsBetween}
 use Rattle.packet_frame.proofs.Readings.{begins-wanted, laid-push, front-fault}

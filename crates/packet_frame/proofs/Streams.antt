@@ -1,5 +1,5 @@
 -- A stream has one reading, and a reader that is fed its pieces gives that.
-use Rattle.std.proofs.Common.{◌≡◌, ◌≢◌, ℕ, zero, suc, ◌+◌, ◌-◌, ◌<◌, ◌≤◌, List, [], ◌∷◌, ◌++◌, length, take, refl, sym, ap, ◌∙◌, subst, inl, inr, arith, length-append, append_assoc, append-nil}
+use Rattle.std.proofs.Common.{◌≡◌, ℕ, zero, suc, ◌+◌, ◌<◌, ◌≤◌, List, [], ◌∷◌, ◌++◌, length, take, refl, sym, ap, ◌∙◌, subst, arith, length-append, append_assoc, append-nil}
 use Rattle.std.specs.Prelude.{All}
 use Rattle.std.proofs.Common.{get_or}
 use Rattle.std.proofs.lemmas.List.{take_min, length-take, get_or-append-add}
@@ -7,7 +7,7 @@ use Rattle.packet_frame.specs.declared.packets.Want.{Want}
 use Rattle.packet_frame.specs.declared.packets.Want.TheVariants.{Exactly}
 use Rattle.packet_frame.specs.declared.packets.Packet.{Packet}
 use Rattle.packet_frame.specs.declared.packets.FrameFault.{FrameFault}
-use Rattle.packet_frame.specs.Packets.{id_after, id_at, header, laid, Wants, IsPacket, IsFault, IsUnfinished}
+use Rattle.packet_frame.specs.Packets.{id_after, id_at, header, laid, Wants, IsPacket, IsFault}
 use Rattle.packet_frame.specs.Front.{Front, Whole, Part, Fault, front, IsFront}
 use Rattle.packet_frame.specs.Framing.{Framing, found, fed, missing_of, due, place_of, TakesPacket}
 use Rattle.packet_frame.specs.Streams.{Ending, Between, Cut, Faulty, IsEnding, AreLaid, IsStream, HasGiven, Move, Feeds, Gives, bytes_of, packets_of, IsRun}

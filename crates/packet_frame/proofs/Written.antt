@@ -1,10 +1,8 @@
 -- The pieces of a packet that is written.
-use Rattle.std.proofs.Common.{◌≡◌, ℕ, zero, suc, ◌+◌, ◌<◌, ◌≤◌, List, [], ◌∷◌, ◌++◌, length, refl, sym, ap, ◌∙◌, arith, length-append, append_assoc, append-nil}
+use Rattle.std.proofs.Common.{◌≡◌, ℕ, ◌<◌, List, [], ◌∷◌, ◌++◌, length, refl, sym, ap, ◌∙◌, arith, append_assoc}
 use Rattle.std.specs.List.{concat}
-use Rattle.packet_frame.specs.declared.packets.Want.TheVariants.{Exactly}
-use Rattle.packet_frame.specs.Packets.{full_size, id_after, id_at, header, laid, AllFull, IsPacket, WritesPacket, WritesPieces}
+use Rattle.packet_frame.specs.Packets.{full_size, id_after, id_at, header, laid, AllFull, WritesPacket, WritesPieces}
 use Rattle.packet_frame.proofs.Readings.{laid-push, concat-push}
-use Rattle.packet_frame.proofs.Pieces.{id_at-after}
 
 pub AllFull-push : (full : List (List ℕ)) (piece : List ℕ) → AllFull full → length piece ≡ full_size → AllFull (full ++ piece ∷ [])
 AllFull-push [] piece each e = (e, tt)

@@ -1,10 +1,10 @@
 -- What stands at the front of a list of bytes, computed.
-use Rattle.std.specs.Prelude.{◌≡◌, ℕ, zero, suc, ◌+◌, ◌-◌, ◌==◌, Bool, true, false, List, [], ◌∷◌, ◌++◌, length, take, drop, nat_lt, if◌then◌else◌}
+use Rattle.std.specs.Prelude.{◌≡◌, ℕ, zero, suc, ◌+◌, ◌-◌, ◌==◌, List, [], ◌∷◌, ◌++◌, length, take, drop, nat_lt, if◌then◌else◌}
 use Rattle.lg_base.specs.Fields.{little}
 use Rattle.packet_frame.specs.declared.packets.Want.{Want}
 use Rattle.packet_frame.specs.declared.packets.Want.TheVariants.{Exactly, Any}
 use Rattle.packet_frame.specs.declared.packets.FrameFault.{FrameFault}
-use Rattle.packet_frame.specs.declared.packets.FrameFault.TheVariants.{TooLarge, OutOfOrder, Memory}
+use Rattle.packet_frame.specs.declared.packets.FrameFault.TheVariants.{TooLarge, OutOfOrder}
 use Rattle.packet_frame.specs.Packets.{full_size, id_after, IsPacket, IsFault, IsUnfinished}
 
 -- What stands at the front: a packet and what follows it, less than a packet, of whose last header or

@@ -1,7 +1,5 @@
 -- What the fields of a reader stand for.
-use Rattle.std.specs.Prelude.{◌≡◌, ℕ, zero, suc, ◌+◌, ◌-◌, ◌*◌, ◌^◌, ◌<◌, ◌≤◌, List, [], ◌∷◌, ◌++◌, length, take, drop}
-use Rattle.packet_frame.specs.declared.packets.Want.{Want}
-use Rattle.packet_frame.specs.declared.packets.FrameFault.{FrameFault}
+use Rattle.std.specs.Prelude.{◌≡◌, ℕ, zero, suc, ◌+◌, ◌*◌, ◌^◌, ◌<◌, ◌≤◌, List, [], ◌∷◌, ◌++◌, length, take, drop}
 use Rattle.packet_frame.specs.declared.progress.Stage.{Stage}
 use Rattle.packet_frame.specs.declared.progress.Stage.TheVariants.{Header, Payload, Ready, Failed}
 use Rattle.packet_frame.specs.declared.progress.Progress.{Progress}

@@ -1,6 +1,6 @@
 use Rattle.std.proofs.Common.{◌≡◌, ◌↔◌, ◌⊎◌, [], IfOk, refl, subst}
 use Rattle.std.proofs.lemmas.Result.{IfOk-weaker}
-use Rattle.packet_frame.specs.Framing.{Framing, found, IsWhole}
+use Rattle.packet_frame.specs.Framing.{found, IsWhole}
 use Rattle.packet_frame.specs.Progress.{framing}
 use Rattle.packet_frame.proofs.Standing.{progress-reading}
 use Rattle.packet_frame.proofs.Steps.{takes-nothing}

@@ -1,4 +1,4 @@
-use Rattle.std.proofs.Common.{◌<◌, ◌+◌, ◌≡◌, suc, subst, sym, arith}
+use Rattle.std.proofs.Common.{◌<◌, ◌+◌, subst, arith}
 use Rattle.packet_frame.specs.Packets.{full_size}
 use Rattle.packet_frame.specs.Progress.{IsBetween}
 use Rattle.packet_frame.proofs.Steps.{ended-full, ended-short}

@@ -1,5 +1,5 @@
 use Rattle.std.proofs.Common.{arith}
-use Rattle.packet_frame.proofs.Pieces.{length-laid_pieces, length_held}
+use Rattle.packet_frame.proofs.Pieces.{length-laid_pieces}
 use Rattle.packet_frame.proofs.progress.Progress.header_place.Goals as goal
 
 pub returns : goal.returns

@@ -1,4 +1,4 @@
-use Rattle.std.proofs.Common.{◌≡◌, ◌∙◌, ◌-◌, ◌+◌, ◌*◌, ◌<◌, length, min, arith}
+use Rattle.std.proofs.Common.{◌∙◌, ◌-◌, ◌+◌, ◌*◌, ◌<◌, length, arith}
 use Rattle.packet_frame.specs.Packets.{full_size}
 use Rattle.packet_frame.proofs.Steps.{payload-taken}
 use Rattle.packet_frame.proofs.progress.Progress.take_payload.Goals as goal
