@@ -176,19 +176,17 @@ fault-goes_on limit want place fault bytes more shown = record {
     refused = shown.refused;
 }
 
-pub given-faulty : (limit : ℕ) (next : ℕ → Want) (want : Want) (bytes : List ℕ) (packets : List Packet) (v : Framing) (fault : FrameFault) (more : List ℕ) →
-    HasGiven limit next want bytes packets v → IsFault v.limit v.want v.start fault v.held → IsStream limit next want 0 (bytes ++ more) packets (Faulty fault)
-given-faulty limit next want bytes packets v fault more h shown =
-    laid-goes_on limit next
-        (λ wanted at rest. v ≡ record { limit = limit; want = wanted; start = at; held = rest })
-        (λ wanted at rest. IsEnding limit wanted at rest (Faulty fault))
-        more
-        (λ wanted at rest is. fault-goes_on limit wanted at fault rest more (subst (λ x. IsFault x.limit x.want x.start fault x.held) is shown)) want 0 bytes packets h
-
 pub due-is-taken : (v : Framing) (piece : List ℕ) → due v piece ≡ take (length (due v piece)) piece
 due-is-taken v piece =
     let n = missing_of (found v) in
     sym (take_min n piece) ∙ ap (λ m. take m piece) (sym (length-take n piece))
+
+-- a stream that ends at a fault is that stream whatever follows
+pub faulty-stream : (limit : ℕ) (next : ℕ → Want) (want : Want) (place : ℕ) (bytes : List ℕ) (packets : List Packet) (fault : FrameFault) (more : List ℕ) →
+    IsStream limit next want place bytes packets (Faulty fault) → IsStream limit next want place (bytes ++ more) packets (Faulty fault)
+faulty-stream limit next want place bytes packets fault more h =
+    laid-goes_on limit next (λ wanted at rest. IsEnding limit wanted at rest (Faulty fault)) (λ wanted at rest. IsEnding limit wanted at rest (Faulty fault)) more
+        (λ wanted at rest shown. fault-goes_on limit wanted at fault rest more shown) want place bytes packets h
 
 -- any run of a reader gives packets of the bytes that it was fed
 pub run-given : (limit : ℕ) (next : ℕ → Want) (want : Want) (moves : List Move) (bytes : List ℕ) (packets : List Packet) (v w : Framing) →
@@ -196,11 +194,11 @@ pub run-given : (limit : ℕ) (next : ℕ → Want) (want : Want) (moves : List 
 run-given limit next want [] bytes packets v w h run =
     let none = subst (λ x. HasGiven limit next want bytes packets x) (sym run) h in
     subst (λ b. HasGiven limit next want b (packets ++ []) w) (sym (append-nil bytes)) (subst (λ p. HasGiven limit next want bytes p w) (sym (append-nil packets)) none)
-run-given limit next want (Feeds piece count ∷ moves) bytes packets v w h (u, takes, run) =
+run-given limit next want (Feeds piece count ∷ moves) bytes packets v w h (u, grown, counted, run) =
     let more = due v piece in
-    let now = subst (λ x. HasGiven limit next want (bytes ++ more) packets x) (sym takes.grown) (given-fed limit next want bytes packets v more h) in
+    let now = subst (λ x. HasGiven limit next want (bytes ++ more) packets x) (sym grown) (given-fed limit next want bytes packets v more h) in
     let rest = run-given limit next want moves (bytes ++ more) packets u w now run in
-    let taken_is : more ≡ take count piece = due-is-taken v piece ∙ ap (λ n. take n piece) (sym takes.counted) in
+    let taken_is : more ≡ take count piece = due-is-taken v piece ∙ ap (λ n. take n piece) (sym counted) in
     subst (λ b. HasGiven limit next want b (packets ++ packets_of moves) w) (append_assoc bytes more (bytes_of moves) ∙ ap (λ m. bytes ++ (m ++ bytes_of moves)) taken_is) rest
 run-given limit next want (Gives packet ∷ moves) bytes packets v w h (u, takes, run) =
     let now = given-taken limit next want bytes packets v packet u h takes in

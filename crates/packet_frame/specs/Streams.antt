@@ -5,7 +5,7 @@ use Rattle.packet_frame.specs.declared.packets.Want.{Want}
 use Rattle.packet_frame.specs.declared.packets.Packet.{Packet}
 use Rattle.packet_frame.specs.declared.packets.FrameFault.{FrameFault}
 use Rattle.packet_frame.specs.Packets.{IsPacket, IsFault, IsUnfinished}
-use Rattle.packet_frame.specs.Framing.{Framing, Takes, TakesPacket}
+use Rattle.packet_frame.specs.Framing.{Framing, due, fed, TakesPacket}
 
 -- how a stream ends: after a packet, within the packet whose first header byte stands at a place, or at
 -- a fault
@@ -38,8 +38,9 @@ abbrev pub HasGiven : (limit : ℕ) → (next : ℕ → Want) → Want → List 
 HasGiven limit next want bytes packets v =
     AreLaid limit next (λ wanted at rest. v ≡ record { limit = limit; want = wanted; start = at; held = rest }) want 0 bytes packets
 
--- what is done with a reader: it is fed a piece, of which it takes so many bytes, or a packet is taken
--- out of it, and the id that is wanted then is set
+-- what is done with a reader: it is fed a piece, of which it takes so many bytes, up to the end of the
+-- present header or piece of payload, a faulty header included; or a packet is taken out of it, and the
+-- id that is wanted then is set
 pub data Move : Type 0 where
   Feeds : (piece : List ℕ) → (count : ℕ) → Move
   Gives : Packet → Move
@@ -59,5 +60,6 @@ packets_of (Gives packet ∷ moves) = packet ∷ packets_of moves
 -- what a reader does, from one state to another
 abbrev pub IsRun : (next : ℕ → Want) → Framing → List Move → Framing → Type 0
 IsRun next v [] w = w ≡ v
-IsRun next v (Feeds piece count ∷ moves) w = (u : Framing) × Takes v piece count u × IsRun next u moves w
+IsRun next v (Feeds piece count ∷ moves) w =
+    (u : Framing) × (u ≡ fed v (due v piece)) × (count ≡ length (due v piece)) × IsRun next u moves w
 IsRun next v (Gives packet ∷ moves) w = (u : Framing) × TakesPacket v packet u × IsRun next (record u { want = next packet.last }) moves w

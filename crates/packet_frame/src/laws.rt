@@ -4,10 +4,10 @@
 ghost use Rattle.packet_frame.specs.Framing.{Framing};
 ghost use Rattle.packet_frame.specs.Front.{Front, Whole, front, IsFront, StaysWith};
 ghost use Rattle.packet_frame.specs.Packets.{Wants, IsPacket};
-ghost use Rattle.packet_frame.specs.Streams.{Ending, IsEnding, IsStream, Move, bytes_of, packets_of, IsRun};
+ghost use Rattle.packet_frame.specs.Streams.{Ending, Faulty, IsEnding, IsStream, Move, bytes_of, packets_of, IsRun};
 ghost use Rattle.std.specs.Prelude.{◌≡◌, ◌↔◌, ◌<◌, ◌≤◌, ◌++◌, [], ℕ, List, All, length};
 
-use crate::packets::{Packet, Want};
+use crate::packets::{FrameFault, Packet, Want};
 
 /// What is computed of the front of bytes is what stands there: a packet, less than a packet, or a fault.
 pub fn front_is_what_stands_there()
@@ -43,6 +43,13 @@ pub fn readers_give_the_stream()
     ensures { (limit : ℕ) (next : ℕ → Want) (want : Want) (moves : List Move) (v : Framing) (ending : Ending) →
         IsRun next (record { limit = limit; want = want; start = 0; held = [] }) moves v → IsEnding v.limit v.want v.start v.held ending →
         IsStream limit next want 0 (bytes_of moves) (packets_of moves) ending }
+{
+}
+
+/// A stream that ends at a fault is that stream whatever follows.
+pub fn faults_end_the_stream()
+    ensures { (limit : ℕ) (next : ℕ → Want) (want : Want) (place : ℕ) (bytes : List ℕ) (packets : List Packet) (fault : FrameFault) (more : List ℕ) →
+        IsStream limit next want place bytes packets (Faulty fault) → IsStream limit next want place (bytes ++ more) packets (Faulty fault) }
 {
 }
 
