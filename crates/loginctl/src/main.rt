@@ -3,5 +3,6 @@
 
 mod input;
 mod script_text;
+mod session_script;
 
 fn main() {}

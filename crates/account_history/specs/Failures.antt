@@ -1,0 +1,96 @@
+-- The failed logins that count against an account.
+--
+-- MySQL 8.0 Reference Manual, "Failed-Login Tracking and Temporary Account Locking". The tally is a count over
+-- the entries since the last one that clears it. A failure during a lock isn't counted; an attempt after a lock
+-- has ended begins anew.
+use Rattle.std.specs.Prelude.{ℕ, max, ◌==◌, List, [], ◌∷◌, ◌++◌, map, filter, Bool, true, false, not, ◌&&◌, if◌then◌else◌, Option, Some, None}
+use Rattle.std.specs.List.{list_any}
+use Rattle.login_lock.specs.declared.Tally.{Tally}
+use Rattle.login_lock.specs.Lock.{is_blocked, is_over, locked_at, tally_of, tracks}
+use Rattle.account_rules.specs.declared.accounts.Account.{Account}
+use Rattle.account_history.specs.declared.entries.Attempt.{Attempt}
+use Rattle.account_history.specs.declared.entries.Entry.{Entry}
+use Rattle.account_history.specs.declared.entries.Entry.TheVariants.{Observed, Attempted}
+use Rattle.account_history.specs.declared.entries.Reply.{Reply}
+use Rattle.account_history.specs.declared.entries.Reply.TheVariants.{Opened, Sandbox, Blocked, Denied, Locked, MustChange}
+use Rattle.account_history.specs.Histories.{History, From, ◌▹◌, moment}
+use Rattle.account_history.specs.Known.{known}
+use Rattle.account_history.specs.Records.{in_force, records}
+use Rattle.account_history.specs.Verifying.{account_verifies}
+
+-- what an entry is to the tally of an account: its moment, whether it clears the tally, whether it is an attempt
+-- that comes when a lock has ended, and whether it is a failure that counts
+pub record Step : Type 0 where
+  pub moment : ℕ
+  pub resets : Bool
+  pub renews : Bool
+  pub counts : Bool
+
+-- what follows the last element that passes, or all where none does
+abbrev pub after_last : (Step → Bool) → List Step → List Step
+after_last passes [] = []
+after_last passes (x ∷ xs) =
+    if list_any passes xs then after_last passes xs else if passes x then xs else x ∷ xs
+
+-- the last element that passes and what follows it, or all where none does
+abbrev pub from_last : (Step → Bool) → List Step → List Step
+from_last passes [] = []
+from_last passes (x ∷ xs) = if list_any passes xs then from_last passes xs else x ∷ xs
+
+-- the steps that the tally counts over: those after the last that clears it, from the last attempt on that came
+-- when a lock had ended
+abbrev pub span : List Step → List Step
+span steps = from_last (λ step. step.renews) (after_last (λ step. step.resets) steps)
+
+-- the moments of the failures that count, oldest first
+abbrev pub failures_in : List Step → List ℕ
+failures_in steps = map (λ step. step.moment) (filter (λ step. step.counts) (span steps))
+
+-- a session opened
+abbrev pub opens : Reply → Bool
+opens (Opened account host) = true
+opens (Sandbox account host) = true
+opens (Blocked rule left) = false
+opens (Denied using_password) = false
+opens Locked = false
+opens MustChange = false
+
+abbrev pub no_step : ℕ → Step
+no_step now = record { moment = now; resets = false; renews = false; counts = false }
+
+-- an attempt on the account, with the lock that was set before it, if any
+abbrev pub attempt_step : History → Account → Option ℕ → Attempt → ℕ → Step
+attempt_step h account locked attempt now = record {
+  moment = now;
+  resets = opens attempt.reply;
+  renews = is_over account.lock locked now;
+  counts = tracks account.lock && not (is_blocked account.lock locked now)
+      && not (account_verifies (known h) account attempt.evidences);
+}
+
+-- an attempt, where this account is in force for its user
+abbrev pub step_on : History → Option Account → ℕ → List Step → Attempt → ℕ → Step
+step_on h None id before attempt now = no_step now
+step_on h (Some account) id before attempt now =
+    if account.id == id
+    then attempt_step h account (locked_at account.lock (failures_in before)) attempt now
+    else no_step now
+
+abbrev pub step_of : History → Entry → ℕ → List Step → Step
+step_of h (Observed who look) id before = no_step (moment h)
+step_of h (Attempted attempt) id before =
+    step_on h (in_force (records h) attempt.user) id before attempt (max attempt.reading (moment h))
+
+-- the entries of a history as steps of the account with a number
+abbrev pub steps : History → ℕ → List Step
+steps (From start) id = []
+steps (h ▹ entry) id = steps h id ++ step_of h entry id (steps h id) ∷ []
+
+-- the failures that count against the account with a number
+abbrev pub failures : History → ℕ → List ℕ
+failures h id = failures_in (steps h id)
+
+-- an account's tally: the number of the failures that count, and the moment of the one at which it reached the
+-- account's limit
+abbrev pub tally : History → Account → Tally
+tally h account = tally_of account.lock (failures h account.id)

@@ -1,0 +1,12 @@
+//! The model that the login server is judged by: histories of login attempts, and what each entry of a
+//! history is answered.
+//!
+//! **A history is legal where each entry's reply is the one that the entries before it determine.** The
+//! definitions stand in `specs/`: they speak of whole histories and search them, and hold no counter and no
+//! cache. This crate has no code but the types of an entry and the laws of the model. Below it stand
+//! `account_rules`, `login_lock` and `factor_chain` for what an account, a tally and a fit are.
+#![tactic(auto)]
+
+pub mod entries;
+
+pub use entries::{Attempt, Entry, Log, Opening, Reply, Start, Who};

@@ -1,0 +1,5 @@
+//! accounts
+#![tactic(auto)]
+
+pub mod machine;
+pub mod rows;

@@ -1,0 +1,2 @@
+pub mod CheckedOf
+pub mod Checking
