@@ -1,7 +1,7 @@
 -- The fast answer of caching_sha2_password and its test, after the page "Caching_sha2_password
 -- information" of the MySQL protocol documentation: the answer is `SHA256(p) XOR SHA256(d, nonce)`
 -- with the digest `d` = `SHA256(SHA256(p))`, where a comma joins byte lists.
-use Rattle.std.specs.Prelude.{◌≡◌, ℕ, List, [], ◌∷◌, ◌++◌, bit_xor, Bool, bytes_eq}
+use Rattle.std.specs.Prelude.{◌≡◌, ℕ, List, [], ◌∷◌, ◌++◌, bit_xor}
 use Rattle.sha2.specs.Sha256.{sha256}
 
 -- byte by byte, as far as both lists go
@@ -22,7 +22,3 @@ fast_answer password nonce = xor (sha256 password) (sha256 (digest_of password +
 -- digest as its hash
 abbrev pub IsFastRight : List ℕ → List ℕ → List ℕ → Type 0
 IsFastRight digest nonce response = sha256 (xor response (sha256 (digest ++ nonce))) ≡ digest
-
--- the same as a test
-abbrev pub is_fast_right : List ℕ → List ℕ → List ℕ → Bool
-is_fast_right digest nonce response = bytes_eq (sha256 (xor response (sha256 (digest ++ nonce)))) digest

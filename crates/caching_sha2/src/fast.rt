@@ -3,7 +3,7 @@
 
 ghost use Rattle.std.specs.Prelude.{◌≡◌, ◌++◌, IsTrue, ◌↔◌};
 ghost use Rattle.sha2.specs.Sha256.{sha256};
-ghost use Rattle.caching_sha2.specs.Fast.{xor, digest_of, fast_answer, is_fast_right, IsFastRight};
+ghost use Rattle.caching_sha2.specs.Fast.{xor, digest_of, fast_answer, IsFastRight};
 
 use sha2::{Digest, Sha256};
 
@@ -50,8 +50,7 @@ pub fn fast_response(password: &[u8], nonce: &[u8; 20]) -> [u8; 32]
 /// Whether the response is right for the digest: `SHA256(response XOR SHA256(digest, nonce))` is the
 /// digest.
 pub fn fast_right(digest: &[u8; 32], nonce: &[u8; 20], response: &[u8; 32]) -> bool
-    ensures test { result ≡ is_fast_right digest.now nonce.now response.now }
-    ensures equation { IsTrue result ↔ IsFastRight digest.now nonce.now response.now }
+    ensures { IsTrue result ↔ IsFastRight digest.now nonce.now response.now }
 {
     Sha256::digest(xor(response, &mask(digest, nonce))) == *digest
 }
