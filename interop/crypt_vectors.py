@@ -7,7 +7,8 @@ sha_crypt.py, and the system's crypt(3) has to agree where it is there and takes
 
 import sys
 
-import sha_crypt
+sys.dont_write_bytecode = True
+import sha_crypt  # noqa: E402
 
 CHARACTERS = b"ABCDEFGHIJKLMNOPQRSTUVWXYZabcdefghijklmnopqrstuvwxyz0123456789+-"
 PASSWORD = b"".join(CHARACTERS[turn:] + CHARACTERS[:turn] for turn in (0, 1, 5, 18))

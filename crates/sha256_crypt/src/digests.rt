@@ -8,17 +8,18 @@ ghost use Rattle.sha256_crypt.specs.Crypt.{copies, stretched, by_halving, mixed_
 
 use sha2::{Digest, Sha256};
 
-/// Adds the first `length` bytes of the digest, repeated, to what is hashed.
-fn add_stretched(hasher: &mut Sha256, digest: &[u8; 32], length: usize)
-    ensures { (m : List ℕ) → Holds256 hasher.old m → Holds256 hasher.new (m ++ stretched «length» digest.now) }
+/// Adds the first `size` bytes of the digest, repeated, to what is hashed.
+fn add_stretched(hasher: &mut Sha256, digest: &[u8; 32], size: usize)
+    ensures { (m : List ℕ) → Holds256 hasher.old m → Holds256 hasher.new (m ++ stretched size digest.now) }
 {
-    for _ in 0..length / 32 {
+    for _ in 0..size / 32 {
         hasher.update(digest);
     }
-    hasher.update(&digest[..length % 32]);
+    hasher.update(&digest[..size % 32]);
 }
 
-/// Adds `odd` where `number` is odd and `even` where it is even, then the same for its half, down to 1.
+/// Adds `odd` where the number is odd and `even` where it is even, then the same for its half, and so
+/// on down to 1.
 fn add_by_halving(hasher: &mut Sha256, number: usize, odd: &[u8], even: &[u8])
     ensures { (m : List ℕ) → Holds256 hasher.old m
         → Holds256 hasher.new (m ++ by_halving number odd.now even.now number) }
@@ -65,13 +66,13 @@ pub(crate) fn start_digest(password: &[u8], salt: &[u8]) -> [u8; 32]
     hasher.finalize()
 }
 
-/// The digest, repeated, in the first `length` bytes of an array.
-pub(crate) fn stretched<const N: usize>(digest: &[u8; 32], length: usize) -> [u8; N]
-    requires { «length» ≤ N }
-    ensures { take «length» result ≡ stretched «length» digest.now }
+/// The digest, repeated, in the first `size` bytes of an array.
+pub(crate) fn stretched<const N: usize>(digest: &[u8; 32], size: usize) -> [u8; N]
+    requires { size ≤ N }
+    ensures { take size result ≡ stretched size digest.now }
 {
     let mut bytes = [0; N];
-    for i in 0..length {
+    for i in 0..size {
         bytes[i] = digest[i % 32];
     }
     bytes

@@ -15,11 +15,20 @@ pub fn is_salt_byte(byte: u8) -> bool
     matches!(byte, b'.'..=b'9' | b'A'..=b'Z' | b'a'..=b'z')
 }
 
+/// The salt byte that stands for a number below 64.
+pub fn salt_byte(number: u8) -> u8
+    requires { number < 64 }
+    ensures value { result ≡ slice_index alphabet number }
+    ensures salt { IsSaltByte result }
+{
+    ALPHABET[usize::from(number)]
+}
+
 /// The character of a number's lowest digit in base 64.
 fn character(number: u32) -> u8
     ensures { result ≡ slice_index alphabet (number % 64) }
 {
-    ALPHABET[(number % 64) as usize]
+    salt_byte((number % 64) as u8)
 }
 
 /// The characters of a number's four lowest digits in base 64, the lowest first.

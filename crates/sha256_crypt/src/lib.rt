@@ -1,6 +1,6 @@
 //! SHA-256 crypt: the sum that stands for a password in a stored text. It follows Ulrich Drepper's
 //! text "Unix crypt using SHA-256 and SHA-512" in all but one point: the salt has up to 20 bytes and
-//! isn't cut to 16.
+//! isn't cut to 16. Here too stands the alphabet of salts and sums, `./0-9A-Za-z`.
 //!
 //! **`crypt` gives what that text says of whole lists of bytes**, by repetition and joining
 //! (`specs/Crypt.antt`). It hashes piece by piece from fixed arrays and takes no memory. The
@@ -14,7 +14,7 @@ ghost use Rattle.sha256_crypt.specs.Crypt.{crypt_of};
 
 use digests::{digest_of_copies, start_digest, stretched};
 use encoding::encoded;
-pub use encoding::is_salt_byte;
+pub use encoding::{is_salt_byte, salt_byte};
 use rounds::after_rounds;
 
 mod digests;

@@ -41,6 +41,10 @@ fn salt_bytes(rt: HostRuntime) {
         }
     }
     assert_eq!(rt; count, 64);
+    assert_eq!(rt; salt_byte(0), b'.');
+    assert_eq!(rt; salt_byte(11), b'9');
+    assert_eq!(rt; salt_byte(12), b'A');
+    assert_eq!(rt; salt_byte(63), b'z');
     for byte in b"./09AZaz" {
         assert!(rt; is_salt_byte(*byte));
     }

@@ -12,6 +12,6 @@ loop-preserved c = λ m held.
 
 pub returns : goal.returns
 returns c = λ m held.
-    let whole : c.loop.counter ≡ c.args.length / 32 = omega arith in
-    rw (take-copies c.args.length c.args.digest.now c.told-digest, ← append_assoc, ← whole)
+    let whole : c.loop.counter ≡ c.args.size / 32 = omega arith in
+    rw (take-copies c.args.size c.args.digest.now c.told-digest, ← append_assoc, ← whole)
     (c.update-2.ensures _ (c.loop.invariant m held))

@@ -11,15 +11,15 @@ loop-i-preserved g c =
     let digest = c.args.digest.now in
     let byte : ℕ = get_or digest (i % 32) 0 in
     let room : i < length bytes = omega (arith, length-replicate {A = ℕ} g.row.N 0) in
-    let within : i < c.args.length * 32 = omega arith in
-    let repeated : i < length (copies c.args.length digest) =
-    omega (arith, length-copies c.args.length digest c.told-digest) in
+    let within : i < c.args.size * 32 = omega arith in
+    let repeated : i < length (copies c.args.size digest) =
+    omega (arith, length-copies c.args.size digest c.told-digest) in
     record {
       filled =
           rw (
             take_more_set bytes i byte room,
-            take_more (copies c.args.length digest) i 0 repeated,
-            get_or-copies c.args.length digest i c.told-digest within,
+            take_more (copies c.args.size digest) i 0 repeated,
+            get_or-copies c.args.size digest i c.told-digest within,
             c.loop-i.invariant.filled,
           ) refl;
       length_kept = length-set bytes i byte ∙ c.loop-i.invariant.length_kept;
