@@ -3,13 +3,13 @@
 
 ghost use Rattle.std.specs.Prelude.{◌≡◌, ◌++◌, IsTrue, ◌↔◌};
 ghost use Rattle.sha2.specs.Sha256.{sha256};
-ghost use Rattle.caching_sha2.specs.Fast.{xor, digest_of, fast_answer, IsFastRight};
+ghost use Rattle.caching_sha2.specs.Fast.{xor_bytes, digest_of, fast_mask, fast_answer, fast_right, IsFastRight};
 
 use sha2::{Digest, Sha256};
 
 /// Two digests, xored byte by byte.
-fn xor(left: &[u8; 32], right: &[u8; 32]) -> [u8; 32]
-    ensures { result ≡ xor left.now right.now }
+fn xor_bytes(left: &[u8; 32], right: &[u8; 32]) -> [u8; 32]
+    ensures { result ≡ xor_bytes left.now right.now }
 {
     let mut both = [0; 32];
     for i in 0..32 {
@@ -19,8 +19,8 @@ fn xor(left: &[u8; 32], right: &[u8; 32]) -> [u8; 32]
 }
 
 /// What an answer to the nonce is xored with, for a password with this digest.
-fn mask(digest: &[u8; 32], nonce: &[u8; 20]) -> [u8; 32]
-    ensures { result ≡ sha256 (digest.now ++ nonce.now) }
+fn fast_mask(digest: &[u8; 32], nonce: &[u8; 20]) -> [u8; 32]
+    ensures { result ≡ fast_mask digest.now nonce.now }
 {
     let mut hasher = Sha256::new();
     hasher.update(digest);
@@ -40,17 +40,18 @@ pub fn fast_response(password: &[u8], nonce: &[u8; 20]) -> [u8; 32]
     ensures answer { result ≡ fast_answer password.now nonce.now }
 
     // The server, which knows the digest alone, takes it.
-    ensures right { IsFastRight (digest_of password.now) nonce.now result }
+    ensures right { IsTrue (fast_right (digest_of password.now) nonce.now result) }
 {
     let once = Sha256::digest(password);
     let twice = Sha256::digest(once);
-    xor(&once, &mask(&twice, nonce))
+    xor_bytes(&once, &fast_mask(&twice, nonce))
 }
 
 /// Whether the response is right for the digest: `SHA256(response XOR SHA256(digest, nonce))` is the
 /// digest.
 pub fn fast_right(digest: &[u8; 32], nonce: &[u8; 20], response: &[u8; 32]) -> bool
-    ensures { IsTrue result ↔ IsFastRight digest.now nonce.now response.now }
+    ensures test { result ≡ fast_right digest.now nonce.now response.now }
+    ensures equation { IsTrue result ↔ IsFastRight digest.now nonce.now response.now }
 {
-    Sha256::digest(xor(response, &mask(digest, nonce))) == *digest
+    Sha256::digest(xor_bytes(response, &fast_mask(digest, nonce))) == *digest
 }
