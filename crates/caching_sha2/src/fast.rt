@@ -1,8 +1,7 @@
 //! The fast answer of caching_sha2_password, after the page "Caching_sha2_password information" of
 //! the MySQL protocol documentation.
 
-ghost use Rattle.std.specs.Prelude.{◌≡◌, ◌++◌, IsTrue, ◌↔◌};
-ghost use Rattle.sha2.specs.Sha256.{sha256};
+ghost use Rattle.std.specs.Prelude.{◌≡◌, IsTrue, ◌↔◌};
 ghost use Rattle.caching_sha2.specs.Fast.{xor_bytes, digest_of, fast_mask, fast_answer, fast_right, IsFastRight};
 
 use sha2::{Digest, Sha256};

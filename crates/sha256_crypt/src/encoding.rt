@@ -1,6 +1,6 @@
 //! The alphabet of crypt's texts, and the text of a digest (step 22 of the text on SHA-crypt).
 
-ghost use Rattle.std.specs.Prelude.{◌≡◌, ◌<◌, ◌+◌, ◌%◌, slice_index, IsTrue, ◌↔◌};
+ghost use Rattle.std.specs.Prelude.{◌≡◌, ◌<◌, ◌%◌, slice_index, IsTrue, ◌↔◌};
 ghost use Rattle.sha256_crypt.specs.Alphabet.{alphabet, IsSaltByte};
 ghost use Rattle.sha256_crypt.specs.Crypt.{characters, group, encoded};
 

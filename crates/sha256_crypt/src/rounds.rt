@@ -1,7 +1,7 @@
 //! The rounds (step 21 of the text on SHA-crypt). What an odd round hashes before the digest doesn't
 //! change from round to round, so it is hashed once, and each odd round goes on from there.
 
-ghost use Rattle.std.specs.Prelude.{◌≡◌, ℕ, ◌+◌, ◌%◌, List, ◌++◌};
+ghost use Rattle.std.specs.Prelude.{◌≡◌, ℕ, List};
 ghost use Rattle.sha2.specs.Hashers.{Holds256};
 ghost use Rattle.sha2.specs.Sha256.{sha256};
 ghost use Rattle.sha256_crypt.specs.Crypt.{round_message, after_rounds};
