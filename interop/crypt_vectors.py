@@ -22,6 +22,7 @@ CASES = (
     + [(password, 16, 1000) for password in PASSWORD_LENGTHS]
     + [(password, 20, 44) for password in PASSWORD_LENGTHS]
     + [(13, 20, rounds) for rounds in ROUNDS]
+    + [(13, 16, rounds) for rounds in (1001, 1234, 2000, 4999, 5000, 12345)]
     + [(0, 0, 1), (0, 0, 1000), (256, 20, 5000)]
 )
 

@@ -8,7 +8,7 @@ pub const PASSWORD: &[u8; 256] =
 
 pub const SALT: &[u8; 20] = b"saltSALT0123./abcXYZ";
 
-pub const VECTORS: [Vector; 75] = [
+pub const VECTORS: [Vector; 81] = [
     (13, 0, 1000, "K3wDHxjA11w9sJvll1Z30vzk2zRidaPBkho4aH0lMK3"),
     (13, 1, 1000, "3MG/GUHHS36VZgSFfEFNIIpevoXq2suLWhEC5Z2GhL/"),
     (13, 2, 1000, "1Xmnb87aj6GLHk9ua4clQrd7sc22YKb9trxVUXc92O6"),
@@ -81,6 +81,12 @@ pub const VECTORS: [Vector; 75] = [
     (13, 20, 1001, "GqixFkbX8Yl4TpzoBy1S5k4DTsSqBBRRE6UhGS99kpD"),
     (13, 20, 4999, "twZh0ozJbLrhkiizMlUAArDAmd2jlOMMupjq57VxpQB"),
     (13, 20, 5000, "4Yl/.MA8t/Hl/IO8qPmu08OgraMPJP0hhW8L/YLsUr8"),
+    (13, 16, 1001, "ccsbnlQiyQ2Wlz0xwLPkd3shdNDD/jpSzKSJBro/mu0"),
+    (13, 16, 1234, "2tp0Yh4DysWblR7v4xOVIW9u./U4Wko4t/TIaPQwk81"),
+    (13, 16, 2000, "kN05k0axqGPzzCHy/Z1.v7VOuTnO3zXRl2UwTnOc05."),
+    (13, 16, 4999, "VOmrCojfDBHXCrOgeiCzq/XcoA6MVzA3gfiLg6zGDx3"),
+    (13, 16, 5000, "Xarp8Lupa7emxxEO92AyRUTHV.1kTvMi4V.Sa1ducw/"),
+    (13, 16, 12345, "gZKz94SWkBX5V2SFf6bW3Hzsfxq6t6toEsGwHH/yrm."),
     (0, 0, 1, "3JLL3MTxUnZXobWsTObDH22nMCEK/CxD8opIAJYUIO3"),
     (0, 0, 1000, "jAQ1NZgJkatmWyAsK0NxDcSXTB41aRCrTggwkNbBkXA"),
     (256, 20, 5000, "z2c3PFeCWQznZHp0X5V/sKp.tCOTE.CyRQtHnWIPTf."),
