@@ -7,7 +7,7 @@ use Rattle.std.specs.List.{list_all, enumerate_from}
 use Rattle.std.specs.Str.{bytes_eq}
 use Rattle.native_scramble.specs.Native.{native_right, native_stage2}
 use Rattle.sha256_crypt.specs.Crypt.{crypt_of}
-use Rattle.caching_sha2.specs.Fast.{is_fast_right}
+use Rattle.caching_sha2.specs.Fast.{fast_right}
 use Rattle.caching_sha2.specs.declared.stored.Sha2Stored.{Sha2Stored}
 use Rattle.factor_chain.specs.declared.credentials.Stored.{Stored}
 use Rattle.factor_chain.specs.declared.credentials.Stored.TheVariants as stored
@@ -48,7 +48,7 @@ full_fits (stored.Sha2 value) password = password_fits (stored.Sha2 value) passw
 -- an answer of the fast path is right for a digest that is known
 abbrev pub digest_fits : Option (List ℕ) → List ℕ → List ℕ → Bool
 digest_fits None nonce response = false
-digest_fits (Some digest) nonce response = is_fast_right digest nonce response
+digest_fits (Some digest) nonce response = fast_right digest nonce response
 
 abbrev pub is_empty : Stored → Bool
 is_empty stored.Empty = true
