@@ -14,7 +14,7 @@ use Rattle.wire_form.proofs.Whole.{rest-lawful, nothing-lawful, whole-lawful, la
 use Rattle.wire_form.proofs.Payloads.{read_as}
 use Rattle.auth_packets.specs.Faults.{malformed_at}
 use Rattle.auth_packets.specs.Flags.{flags, lower_flags, upper_flags, any_byte, second_fits, third_fits}
-use Rattle.auth_packets.specs.Handshake.{opening, session, nonce, nonce_end, greeting, client, answer, database, claim, extras, response}
+use Rattle.auth_packets.specs.Handshake.{opening, session, nonce, nonce_end, greeting, client, answer, database, claim, attributes, response}
 use Rattle.auth_packets.specs.declared.fault.PacketFault.{PacketFault}
 use Rattle.auth_packets.specs.declared.handshake.Greeting.{Greeting}
 use Rattle.auth_packets.specs.declared.handshake.Response.{Response}
@@ -82,15 +82,19 @@ claim-lawful : (n : ℕ) → IsField (claim n)
 unfolding claim
 claim-lawful n = ▸-lawful _ _ (answer-lawful n) (▸-lawful _ _ (database-lawful n) name-lawful)
 
-extras-lawful : (n : ℕ) → IsForm (extras n)
-unfolding extras
-extras-lawful n = ▹-lawful _ _ (optional-lawful _ _ (counted-lawful _ lenenc-lawful)) rest-lawful
+attributes-lawful : (n : ℕ) → IsField (attributes n)
+unfolding attributes
+attributes-lawful n = optional-lawful _ _ (counted-lawful _ lenenc-lawful)
 
 pub response-lawful : IsForm response
 unfolding response
-response-lawful = whole-lawful _ _ _ (lead-lawful _ _ client-lawful (λ c. ▹-lawful _ _ (claim-lawful c.0) (extras-lawful c.0)))
+response-lawful = whole-lawful _ _ _ (lead-lawful _ _ client-lawful (λ c. ▹-lawful _ _ (claim-lawful c.0) (▹-lawful _ _ (attributes-lawful c.0) rest-lawful)))
 
 -- a call that answers what the form's reader finds, reads a response
 pub response_read : (payload : List ℕ) (result : Result Response PacketFault) →
     Gives malformed_at result (response.read (start payload)) → IsReadAs malformed_at response.Spells payload result
 response_read = read_as response response-lawful malformed_at
+
+pub greeting_read : (payload : List ℕ) (result : Result Greeting PacketFault) →
+  Gives malformed_at result (greeting.read (start payload)) → IsReadAs malformed_at greeting.Spells payload result
+greeting_read = read_as greeting greeting-lawful malformed_at

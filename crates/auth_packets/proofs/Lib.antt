@@ -1,3 +1,4 @@
+pub mod FieldLemmas
 pub mod HandshakeLaws
 pub mod RepliesLaws
 pub mod Written

@@ -1,7 +1,8 @@
 -- The server's greeting and the client's response: "Protocol::HandshakeV10" and
 -- "Protocol::HandshakeResponse41" of the MySQL client/server protocol documentation.
-use Rattle.std.specs.Prelude.{◌≡◌, ℕ, ◌+◌, ◌-◌, ◌*◌, ◌/◌, ◌%◌, max, List, [], ◌∷◌, ◌++◌, take, drop, replicate, ◌==◌, Contains, Option}
-use Rattle.lg_base.specs.Fields.{little_text}
+use Rattle.std.specs.Prelude.{◌≡◌, ℕ, ◌<◌, ◌+◌, ◌-◌, ◌*◌, ◌/◌, ◌%◌, max, Bool, true, false, List, [], ◌∷◌, ◌++◌, length, take, drop, replicate, ◌==◌, Contains, Option, Some, None, is_some, IfSome}
+use Rattle.std.specs.Bool.{OnFalse}
+use Rattle.lg_base.specs.Fields.{little_text, lenenc_text}
 use Rattle.wire_form.specs.Fields.{Field, number, mark, bytes, skipped, lenenc, name, follow, ◌▸◌, counted, chosen, optional}
 use Rattle.wire_form.specs.Forms.{Form, rest, nothing, lead, ◌▹◌, whole, last_name}
 use Rattle.auth_packets.specs.Flags.{HasNeeded, is_set, CONNECT_WITH_DB, CONNECT_ATTRS, LENENC_CLIENT_DATA, flags, lower_flags, upper_flags}
@@ -108,9 +109,9 @@ database flags = optional (is_set CONNECT_WITH_DB flags) name
 unfoldable pub claim : ℕ → Field (List ℕ × (Option (List ℕ) × List ℕ))
 claim flags = answer flags ▸ database flags ▸ name
 
--- the connection's attributes, and whatever follows
-unfoldable pub extras : ℕ → Form (Option (List ℕ) × List ℕ)
-extras flags = optional (is_set CONNECT_ATTRS flags) (counted lenenc) ▹ rest
+-- the connection's attributes, where the flags tell of them
+unfoldable pub attributes : ℕ → Field (Option (List ℕ))
+attributes flags = optional (is_set CONNECT_ATTRS flags) (counted lenenc)
 
 abbrev pub ResponseParts : Type 0
 ResponseParts = Client × ((List ℕ × (Option (List ℕ) × List ℕ)) × (Option (List ℕ) × List ℕ))
@@ -138,4 +139,40 @@ response_parts r = (
 )
 
 unfoldable pub response : Form Response
-response = whole response_of response_parts (lead client (λ c. claim c.0 ▹ extras c.0))
+response = whole response_of response_parts (lead client (λ c. claim c.0 ▹ attributes c.0 ▹ rest))
+
+-- ## The response as it is written
+
+-- A response that can be written. A text in it holds no 00, the optional fields are there exactly where the
+-- flags tell of them, and a length in one byte is below 256.
+pub record IsWholeResponse (r : Response) : Type 0 where
+  pub flags : HasNeeded r.flags
+  pub user : ¬ Contains r.user 0
+  pub auth : OnFalse (is_set LENENC_CLIENT_DATA r.flags) (length r.auth < 256)
+  pub database : is_some r.database ≡ is_set CONNECT_WITH_DB r.flags
+  pub database_text : IfSome r.database (λ text. ¬ Contains text 0)
+  pub plugin : ¬ Contains r.plugin 0
+  pub attributes : is_some r.attributes ≡ is_set CONNECT_ATTRS r.flags
+
+unfoldable pub client_text : Response → List ℕ
+client_text r =
+    little_text 4 r.flags ++ little_text 4 r.max_packet ++ r.charset ∷ [] ++ replicate 23 0 ++ (r.user ++ 0 ∷ [])
+
+abbrev pub length_text : Bool → ℕ → List ℕ
+length_text true n = lenenc_text n
+length_text false n = n ∷ []
+
+unfoldable pub answer_text : ℕ → List ℕ → List ℕ
+answer_text flags auth = length_text (is_set LENENC_CLIENT_DATA flags) (length auth) ++ auth
+
+unfoldable pub database_text : Option (List ℕ) → List ℕ
+database_text None = []
+database_text (Some text) = text ++ 0 ∷ []
+
+unfoldable pub attributes_text : Option (List ℕ) → List ℕ
+attributes_text None = []
+attributes_text (Some bytes) = lenenc_text (length bytes) ++ bytes
+
+unfoldable pub response_text : Response → List ℕ
+response_text r = client_text r ++ answer_text r.flags r.auth ++ database_text r.database ++ (r.plugin ++ 0 ∷ [])
+    ++ attributes_text r.attributes ++ r.rest

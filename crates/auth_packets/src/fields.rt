@@ -2,8 +2,9 @@
 
 ghost use Rattle.auth_packets.specs.Faults.{malformed_at};
 ghost use Rattle.std.specs.Prelude.{◌↔◌, ◌<◌, Contains, IsTrue};
-ghost use Rattle.wire_form.specs.Fields.{bytes, chosen, counted, lenenc, name, number, optional};
-ghost use Rattle.wire_form.specs.Payloads.{Steps};
+ghost use Rattle.wire_form.specs.Fields.{bytes, chosen, counted, lenenc, mark, name, number, optional};
+ghost use Rattle.wire_form.specs.Forms.{◌▹◌, nothing, rest};
+ghost use Rattle.wire_form.specs.Payloads.{Gives, GivesAs, Steps};
 
 use crate::fault::PacketFault;
 use lg_base::{Bytes, Reader};
@@ -69,6 +70,51 @@ pub(crate) fn read_optional_counted(
     } else {
         Ok(None)
     }
+}
+
+/// The byte that a message begins with, or another that has to stand there.
+pub(crate) fn read_mark(byte: u8, reader: &mut Reader) -> Result<(), PacketFault>
+    ensures { Steps (λ x. x) malformed_at reader.new result ((mark byte).read reader.old) }
+{
+    let at = reader.at();
+    let x = reader.read_u8()?;
+    if x != byte {
+        return Err(PacketFault::Malformed { at });
+    }
+    Ok(())
+}
+
+/// That no byte is left.
+pub(crate) fn read_end(reader: &mut Reader) -> Result<(), PacketFault>
+    ensures { Gives malformed_at result (nothing.read reader.old) }
+{
+    match reader.peek() {
+        None => Ok(()),
+        Some(_) => Err(PacketFault::Malformed { at: reader.at() }),
+    }
+}
+
+/// The byte that a message begins with, and all bytes behind it.
+pub(crate) fn read_marked(
+    alloc: Global,
+    byte: u8,
+    reader: &mut Reader,
+) -> Result<Bytes, PacketFault>
+    ensures { GivesAs (λ x. (tt, x)) malformed_at result ((mark byte ▹ rest).read reader.old) }
+{
+    read_mark(byte, reader)?;
+    Ok(Bytes::copy(alloc, reader.rest())?)
+}
+
+/// Exactly `N` bytes.
+#[tactic(auto, using(crate::proofs::FieldLemmas::bytes_read))]
+pub(crate) fn read_array<const N: usize>(reader: &mut Reader) -> Result<[u8; N], PacketFault>
+    ensures { Steps (λ x. x) malformed_at reader.new result ((bytes N).read reader.old) }
+{
+    let text = reader.take(N as u64)?;
+    let mut held = [0; N];
+    held.copy_from_slice(text);
+    Ok(held)
 }
 
 /// Whether a text holds no 00, so that one can end it.

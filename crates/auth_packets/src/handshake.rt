@@ -2,16 +2,18 @@
 //! response ("Protocol::HandshakeResponse41").
 
 ghost use Rattle.auth_packets.specs.Faults.{malformed_at};
-ghost use Rattle.auth_packets.specs.Handshake.{IsWholeGreeting, answer, claim, client, database, extras, greeting, greeting_text, nonce_text, opening_text, response, session_text};
+ghost use Rattle.auth_packets.specs.Handshake.{IsWholeGreeting, answer, attributes, claim, client, database, greeting, greeting_text, nonce, nonce_end, nonce_text, opening, opening_text, response, session, session_text};
 ghost use Rattle.std.specs.Prelude.{◌≡◌, ◌↔◌, ◌++◌, Contains, IsTrue, OnOk, OnErr};
+ghost use Rattle.wire_form.specs.Forms.{last_name, nothing};
 ghost use Rattle.wire_form.specs.Payloads.{Gives, GivesAs, IsReadAs, Steps, start};
 
 use crate::fault::PacketFault;
 use crate::fields::{
-    has_no_zero, read_counted, read_name, read_optional_counted, read_optional_name,
+    has_no_zero, read_array, read_counted, read_end, read_mark, read_name, read_optional_counted,
+    read_optional_name,
 };
 use crate::flags::{
-    CONNECT_ATTRS, CONNECT_WITH_DB, PLUGIN_AUTH_LENENC_CLIENT_DATA, has_needed, is_set, read_flags,
+    CONNECT_ATTRS, CONNECT_WITH_DB, PLUGIN_AUTH_LENENC_CLIENT_DATA, has_needed, is_set, read_flags, read_lower, read_upper,
 };
 use lg_base::{Bytes, Memory, Out, Reader};
 use std::alloc::Global;
@@ -56,6 +58,14 @@ pub struct Response {
 }
 
 impl Greeting {
+    /// Reads a payload that is a greeting, exactly where it spells one.
+    #[tactic(auto, using(crate::proofs::HandshakeLaws::greeting_read))]
+    pub fn read(alloc: Global, payload: &[u8]) -> Result<Greeting, PacketFault>
+        ensures { IsReadAs malformed_at greeting.Spells payload.now result }
+    {
+        read_greeting(alloc, payload)
+    }
+
     /// Whether the fields fit the layout: no 00 in the texts, and the flags that both ends need.
     pub fn is_whole(&self) -> bool
         ensures { IsTrue result ↔ IsWholeGreeting self.now }
@@ -85,6 +95,119 @@ impl Greeting {
         write_greeting(self, &mut text)?;
         out.bytes(text.as_slice())
     }
+}
+
+/// What a greeting begins with.
+#[derive(Drop)]
+struct Opening {
+    version: Bytes,
+    id: u32,
+    first: [u8; 8],
+}
+
+/// What a greeting says of the session.
+#[derive(Clone, Copy)]
+struct Session {
+    lower: u16,
+    charset: u8,
+    status: u16,
+    upper: u16,
+}
+
+#[tactic(auto, unfolding(crate::specs::Handshake::opening))]
+fn read_opening(alloc: Global, reader: &mut Reader) -> Result<Opening, PacketFault>
+    ensures { Steps (λ x. (tt, (x.version, (x.id, (x.first, tt))))) malformed_at reader.new result (opening.read reader.old) }
+{
+    read_mark(0x0a, reader)?;
+    let version = read_name(alloc, reader)?;
+    let id = reader.read_u32()?;
+    let first = read_array(reader)?;
+    reader.take(1)?;
+    Ok(Opening { version, id, first })
+}
+
+#[tactic(auto, unfolding(crate::specs::Handshake::session))]
+fn read_session(reader: &mut Reader) -> Result<Session, PacketFault>
+    ensures { Steps (λ x. (x.lower, (x.charset, (x.status, x.upper)))) malformed_at reader.new result (session.read reader.old) }
+{
+    let lower = read_lower(reader)?;
+    let charset = reader.read_u8()?;
+    let status = reader.read_u16()?;
+    let upper = read_upper(reader)?;
+    Ok(Session {
+        lower,
+        charset,
+        status,
+        upper,
+    })
+}
+
+/// What stands behind the nonce, by the length that was stated for it.
+#[tactic(auto, unfolding(crate::specs::Handshake::nonce_end))]
+fn read_nonce_end(length: u8, reader: &mut Reader) -> Result<(), PacketFault>
+    ensures { Steps (λ x. x) malformed_at reader.new result ((nonce_end length).read reader.old) }
+{
+    if length == 21 {
+        return read_mark(0, reader);
+    }
+    reader.take(u64::from(length.saturating_sub(8).max(13) - 12))?;
+    Ok(())
+}
+
+/// The stated length of the nonce, and its other twelve bytes.
+#[tactic(auto, unfolding(crate::specs::Handshake::nonce))]
+fn read_nonce(reader: &mut Reader) -> Result<(u8, [u8; 12]), PacketFault>
+    ensures { Steps (λ x. ((x.0, tt), (x.1, tt))) malformed_at reader.new result (nonce.read reader.old) }
+{
+    let length = reader.read_u8()?;
+    reader.take(10)?;
+    let second = read_array(reader)?;
+    read_nonce_end(length, reader)?;
+    Ok((length, second))
+}
+
+/// The plugin's name, which is the last field: its 00 may be missing.
+fn read_last_name(alloc: Global, reader: &mut Reader) -> Result<Bytes, PacketFault>
+    ensures { GivesAs (λ x. (x, tt)) malformed_at result ((last_name nothing tt).read reader.old) }
+{
+    match reader.nul_text() {
+        Ok(text) => {
+            read_end(reader)?;
+            Ok(Bytes::copy(alloc, text)?)
+        }
+        Err(_) => Ok(Bytes::copy(alloc, reader.rest())?),
+    }
+}
+
+/// The nonce's two parts together.
+fn joined(first: [u8; 8], second: [u8; 12]) -> [u8; 20]
+    ensures { result ≡ first ++ second }
+{
+    let mut nonce = [0; 20];
+    let (front, back) = nonce.split_at_mut(8);
+    front.copy_from_slice(&first);
+    back.copy_from_slice(&second);
+    nonce
+}
+
+#[tactic(auto, unfolding(crate::specs::Handshake::greeting))]
+fn read_greeting(alloc: Global, payload: &[u8]) -> Result<Greeting, PacketFault>
+    ensures { Gives malformed_at result (greeting.read (start payload.now)) }
+{
+    let mut reader = Reader::new(payload);
+    let opening = read_opening(alloc, &mut reader)?;
+    let session = read_session(&mut reader)?;
+    let (_, second) = read_nonce(&mut reader)?;
+    let plugin = read_last_name(alloc, &mut reader)?;
+    Ok(Greeting {
+        version: opening.version,
+        id: opening.id,
+        nonce: joined(opening.first, second),
+        flags: u32::from(session.lower) + 0x1_0000 * u32::from(session.upper),
+        charset: session.charset,
+        status: session.status,
+        plugin,
+    })
 }
 
 #[tactic(auto, unfolding(crate::specs::Handshake::opening_text))]
@@ -159,13 +282,6 @@ struct Claim {
     plugin: Bytes,
 }
 
-/// What stands behind.
-#[derive(Drop)]
-struct Extras {
-    attributes: Option<Bytes>,
-    rest: Bytes,
-}
-
 #[tactic(auto, unfolding(crate::specs::Handshake::client))]
 fn read_client(alloc: Global, reader: &mut Reader) -> Result<Client, PacketFault>
     ensures { Steps (λ x. (x.flags, (x.max_packet, (x.charset, (tt, x.user))))) malformed_at reader.new result (client.read reader.old) }
@@ -215,13 +331,15 @@ fn read_claim(alloc: Global, flags: u32, reader: &mut Reader) -> Result<Claim, P
     })
 }
 
-#[tactic(auto, unfolding(crate::specs::Handshake::extras))]
-fn read_extras(alloc: Global, flags: u32, reader: &mut Reader) -> Result<Extras, PacketFault>
-    ensures { GivesAs (λ x. (x.attributes, x.rest)) malformed_at result ((extras flags).read reader.old) }
+#[tactic(auto, unfolding(crate::specs::Handshake::attributes))]
+fn read_attributes(
+    alloc: Global,
+    flags: u32,
+    reader: &mut Reader,
+) -> Result<Option<Bytes>, PacketFault>
+    ensures { Steps (λ x. x) malformed_at reader.new result ((attributes flags).read reader.old) }
 {
-    let attributes = read_optional_counted(alloc, is_set(CONNECT_ATTRS, flags), reader)?;
-    let rest = Bytes::copy(alloc, reader.rest())?;
-    Ok(Extras { attributes, rest })
+    read_optional_counted(alloc, is_set(CONNECT_ATTRS, flags), reader)
 }
 
 #[tactic(auto, unfolding(crate::specs::Handshake::response))]
@@ -231,7 +349,8 @@ fn read_response(alloc: Global, payload: &[u8]) -> Result<Response, PacketFault>
     let mut reader = Reader::new(payload);
     let client = read_client(alloc, &mut reader)?;
     let claim = read_claim(alloc, client.flags, &mut reader)?;
-    let extras = read_extras(alloc, client.flags, &mut reader)?;
+    let attributes = read_attributes(alloc, client.flags, &mut reader)?;
+    let rest = Bytes::copy(alloc, reader.rest())?;
     Ok(Response {
         flags: client.flags,
         max_packet: client.max_packet,
@@ -240,7 +359,7 @@ fn read_response(alloc: Global, payload: &[u8]) -> Result<Response, PacketFault>
         auth: claim.auth,
         database: claim.database,
         plugin: claim.plugin,
-        attributes: extras.attributes,
-        rest: extras.rest,
+        attributes,
+        rest,
     })
 }
