@@ -8,9 +8,10 @@ use Rattle.auth_packets.specs.Flags.{lower_flags, upper_flags, flags, HasNeeded,
 use Rattle.auth_packets.proofs.HandshakeLaws.{greeting-lawful, response-lawful}
 use Rattle.auth_packets.specs.declared.handshake.Greeting.{Greeting}
 use Rattle.auth_packets.specs.declared.handshake.Response.{Response}
-use Rattle.auth_packets.proofs.RepliesLaws.{ok-lawful, err-lawful}
+use Rattle.auth_packets.proofs.RepliesLaws.{ok-lawful, err-lawful, eof-lawful}
 use Rattle.auth_packets.specs.declared.replies.OkPacket.{OkPacket}
 use Rattle.auth_packets.specs.declared.replies.ErrPacket.{ErrPacket}
+use Rattle.auth_packets.specs.declared.replies.EofPacket.{EofPacket}
 
 assoc : (a b c d e : List ℕ) → a ++ (b ++ (c ++ (d ++ e))) ≡ a ++ b ++ c ++ d ++ e
 assoc a b c d e = simp append_assoc
@@ -29,6 +30,14 @@ err_spelled v a b =
     subst (λ (text : List ℕ). err_packet.Spells v text) written (err-lawful.written v ((((refl, refl), a), ((((refl, refl), (b, tt)), refl), refl)), refl))
   where
     written : err_packet.write v ≡ err_text v
+    written = simp append_assoc
+
+pub eof_spelled : (v : EofPacket) → v.warnings < 2 ^ 16 → v.status < 2 ^ 16 → eof_packet.Spells v (eof_text v)
+unfolding eof_packet eof_text
+eof_spelled v a b =
+    subst (λ (text : List ℕ). eof_packet.Spells v text) written (eof-lawful.written v ((((refl, refl), (a, b)), tt), refl))
+  where
+    written : eof_packet.write v ≡ eof_text v
     written = simp append_assoc
 
 -- ## The greeting, group by group

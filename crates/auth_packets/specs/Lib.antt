@@ -1,3 +1,5 @@
+pub mod Commands
+pub mod Exchange
 pub mod Faults
 pub mod Flags
 pub mod Handshake

@@ -95,15 +95,14 @@ pub(crate) fn read_end(reader: &mut Reader) -> Result<(), PacketFault>
 }
 
 /// The byte that a message begins with, and all bytes behind it.
-pub(crate) fn read_marked(
-    alloc: Global,
+pub(crate) fn read_marked<'a>(
     byte: u8,
-    reader: &mut Reader,
-) -> Result<Bytes, PacketFault>
-    ensures { GivesAs (λ x. (tt, x)) malformed_at result ((mark byte ▹ rest).read reader.old) }
+    reader: &mut Reader<'a>,
+) -> Result<&'a [u8], PacketFault>
+    ensures { GivesAs (λ x. (tt, x.now)) malformed_at result ((mark byte ▹ rest).read reader.old) }
 {
     read_mark(byte, reader)?;
-    Ok(Bytes::copy(alloc, reader.rest())?)
+    Ok(reader.rest())
 }
 
 /// Exactly `N` bytes.

@@ -6,12 +6,16 @@
 //! `wire_form`; framing is below, and what the messages mean to a session is above.
 #![tactic(auto)]
 
+pub mod commands;
+pub mod exchange;
 pub mod fault;
 mod fields;
 pub mod flags;
 pub mod handshake;
 pub mod replies;
 
+pub use commands::{ChangeUser, Command};
+pub use exchange::{More, NextFactor, Switch};
 pub use fault::PacketFault;
 pub use handshake::{Greeting, Response};
 pub use replies::{EofPacket, ErrPacket, OkPacket};
