@@ -23,7 +23,7 @@ change-lawful = whole-lawful _ _ _ (▹-lawful _ _ (▸-lawful _ _ (mark-lawful 
     (▸-lawful _ _ (counted-lawful _ (number-lawful 1)) name-lawful))) rest-lawful)
 
 pub change_read : (payload : List ℕ) (result : Result ChangeUser PacketFault) →
-  Gives malformed_at result (change_user.read (start payload)) → IsReadAs malformed_at change_user.Spells payload result
+    Gives malformed_at result (change_user.read (start payload)) → IsReadAs malformed_at change_user.Spells payload result
 change_read = read_as change_user change-lawful malformed_at
 
 joined : (a u l x d r : List ℕ) → (a ++ (u ++ ((l ++ x) ++ d))) ++ r ≡ a ++ u ++ l ++ x ++ d ++ r
@@ -75,7 +75,7 @@ unfolding command no_command
 command-lawful = by_first-lawful command_by code_of command_by-lawful (Nothing, [], All-nil (λ x. x < 256), (tt, refl, refl))
 
 pub command_read : (payload : List ℕ) (result : Result Command PacketFault) →
-  Gives malformed_at result (command.read (start payload)) → IsReadAs malformed_at command.Spells payload result
+    Gives malformed_at result (command.read (start payload)) → IsReadAs malformed_at command.Spells payload result
 command_read = read_as command command-lawful malformed_at
 
 pub command_spelled : (v : Command) → IsWholeCommand v → command.Spells v (command_text v)

@@ -30,15 +30,15 @@ unfolding next_factor
 next_factor-lawful = whole-lawful _ _ _ (▹-lawful _ _ (mark-lawful 0x02 (omega arith)) plugin_and_data-lawful)
 
 pub switch_read : (payload : List ℕ) (result : Result Switch PacketFault) →
-  Gives malformed_at result (switch.read (start payload)) → IsReadAs malformed_at switch.Spells payload result
+    Gives malformed_at result (switch.read (start payload)) → IsReadAs malformed_at switch.Spells payload result
 switch_read = read_as switch switch-lawful malformed_at
 
 pub more_read : (payload : List ℕ) (result : Result More PacketFault) →
-  Gives malformed_at result (more.read (start payload)) → IsReadAs malformed_at more.Spells payload result
+    Gives malformed_at result (more.read (start payload)) → IsReadAs malformed_at more.Spells payload result
 more_read = read_as more more-lawful malformed_at
 
 pub next_factor_read : (payload : List ℕ) (result : Result NextFactor PacketFault) →
-  Gives malformed_at result (next_factor.read (start payload)) → IsReadAs malformed_at next_factor.Spells payload result
+    Gives malformed_at result (next_factor.read (start payload)) → IsReadAs malformed_at next_factor.Spells payload result
 next_factor_read = read_as next_factor next_factor-lawful malformed_at
 
 -- ## What is written

@@ -96,5 +96,5 @@ pub response_read : (payload : List ℕ) (result : Result Response PacketFault) 
 response_read = read_as response response-lawful malformed_at
 
 pub greeting_read : (payload : List ℕ) (result : Result Greeting PacketFault) →
-  Gives malformed_at result (greeting.read (start payload)) → IsReadAs malformed_at greeting.Spells payload result
+    Gives malformed_at result (greeting.read (start payload)) → IsReadAs malformed_at greeting.Spells payload result
 greeting_read = read_as greeting greeting-lawful malformed_at

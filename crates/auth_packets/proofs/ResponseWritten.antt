@@ -1,5 +1,5 @@
 -- What is written of a response is a spelling of it.
-use Rattle.std.proofs.Common.{◌≡◌, ℕ, ◌+◌, ◌*◌, ◌/◌, ◌%◌, ◌<◌, ◌^◌, Bool, true, false, List, [], ◌∷◌, ◌++◌, length, Contains, Option, Some, None, is_some, IfSome, refl, sym, ap, ◌∙◌, subst, append_assoc, mod-eq_of_lt, true≢false, arith}
+use Rattle.std.proofs.Common.{◌≡◌, ℕ, ◌+◌, ◌*◌, ◌/◌, ◌%◌, ◌<◌, ◌^◌, Bool, true, false, List, [], ◌∷◌, ◌++◌, length, Contains, Option, Some, None, is_some, IfSome, unwrap_or, refl, sym, ap, ◌∙◌, subst, append_assoc, mod-eq_of_lt, true≢false, arith}
 use Rattle.std.specs.Bool.{OnFalse}
 use Rattle.lg_base.specs.Fields.{little_text, lenenc_text}
 use Rattle.wire_form.specs.Fields.{Field, number, lenenc, name, counted, chosen, optional}
@@ -42,7 +42,7 @@ named_written true None there = absurd (true≢false (sym there))
 named_written false (Some text) there = absurd (true≢false there)
 named_written false None there = refl
 
-counted_fits : (b : Bool) (o : Option (List ℕ)) → is_some o ≡ b → IfSome o (λ bytes. length bytes < 2 ^ 64) → (optional b (counted lenenc)).Fits o
+counted_fits : (b : Bool) (o : Option (List ℕ)) → is_some o ≡ b → length (unwrap_or o []) < 2 ^ 64 → (optional b (counted lenenc)).Fits o
 counted_fits true (Some bytes) there wide = ((wide, refl), refl)
 counted_fits true None there wide = absurd (true≢false (sym there))
 counted_fits false (Some bytes) there wide = absurd (true≢false there)
@@ -63,7 +63,7 @@ database_written : (n : ℕ) (o : Option (List ℕ)) → is_some o ≡ is_set CO
 unfolding database
 database_written n o = named_written (is_set CONNECT_WITH_DB n) o
 
-attributes_fits : (n : ℕ) (o : Option (List ℕ)) → is_some o ≡ is_set CONNECT_ATTRS n → IfSome o (λ bytes. length bytes < 2 ^ 64) → (attributes n).Fits o
+attributes_fits : (n : ℕ) (o : Option (List ℕ)) → is_some o ≡ is_set CONNECT_ATTRS n → length (unwrap_or o []) < 2 ^ 64 → (attributes n).Fits o
 unfolding attributes
 attributes_fits n o = counted_fits (is_set CONNECT_ATTRS n) o
 
@@ -74,7 +74,7 @@ attributes_written n o = counted_written (is_set CONNECT_ATTRS n) o
 -- ## The whole
 
 client_fits : (r : Response) → r.flags < 2 ^ 32 → r.max_packet < 2 ^ 32 → r.charset < 2 ^ 8 → IsWholeResponse r →
-  client.Fits (r.flags, (r.max_packet, (r.charset, (tt, r.user))))
+    client.Fits (r.flags, (r.max_packet, (r.charset, (tt, r.user))))
 unfolding client flags
 client_fits r wide max_packet charset is_whole =
     (((refl, (is_whole.flags.0, (is_whole.flags.1, refl))), omega arith), (max_packet, (charset, ((refl, refl), is_whole.user))))
@@ -84,7 +84,7 @@ joined a b c d e = simp append_assoc
 
 client_written : (r : Response) → r.charset < 2 ^ 8 → client.write (r.flags, (r.max_packet, (r.charset, (tt, r.user)))) ≡ client_text r
 unfolding client client_text flags
-client_written r charset = ?
+client_written r charset = rw (mod-eq_of_lt charset)
 
 claim_text : Response → List ℕ
 claim_text r = answer_text r.flags r.auth ++ (database_text r.database ++ (r.plugin ++ 0 ∷ []))
@@ -104,12 +104,12 @@ regrouped : (a b c d e f : List ℕ) → a ++ ((b ++ (c ++ d)) ++ (e ++ f)) ≡ 
 regrouped a b c d e f = simp append_assoc
 
 pub response_spelled : (r : Response) → r.flags < 2 ^ 32 → r.max_packet < 2 ^ 32 → r.charset < 2 ^ 8 → length r.auth < 2 ^ 64 →
-  IfSome r.attributes (λ bytes. length bytes < 2 ^ 64) → IsWholeResponse r → response.Spells r (response_text r)
+    length (unwrap_or r.attributes []) < 2 ^ 64 → IsWholeResponse r → response.Spells r (response_text r)
 unfolding response response_text claim_text
 response_spelled r wide max_packet charset auth attributes_wide is_whole =
     subst (λ (text : List ℕ). response.Spells r text) written
     (response-lawful.written r
-      ((client_fits r wide max_packet charset is_whole, (claim_fits r auth is_whole, (attributes_fits r.flags r.attributes is_whole.attributes attributes_wide, tt))), refl))
+    ((client_fits r wide max_packet charset is_whole, (claim_fits r auth is_whole, (attributes_fits r.flags r.attributes is_whole.attributes attributes_wide, tt))), refl))
   where
     written : response.write r ≡ response_text r
     written =

@@ -127,10 +127,7 @@ impl NextFactor {
 
 /// The name of a plugin and its data. Where there is no data, the name's 00 may be missing.
 #[tactic(auto, unfolding(crate::specs::Exchange::plugin_and_data))]
-fn read_plugin_and_data(
-    alloc: Global,
-    reader: &mut Reader,
-) -> Result<(Bytes, Bytes), PacketFault>
+fn read_plugin_and_data(alloc: Global, reader: &mut Reader) -> Result<(Bytes, Bytes), PacketFault>
     ensures { GivesAs (λ x. (x.0, x.1)) malformed_at result (plugin_and_data.read reader.old) }
 {
     match reader.nul_text() {

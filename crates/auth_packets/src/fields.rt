@@ -95,10 +95,7 @@ pub(crate) fn read_end(reader: &mut Reader) -> Result<(), PacketFault>
 }
 
 /// The byte that a message begins with, and all bytes behind it.
-pub(crate) fn read_marked<'a>(
-    byte: u8,
-    reader: &mut Reader<'a>,
-) -> Result<&'a [u8], PacketFault>
+pub(crate) fn read_marked<'a>(byte: u8, reader: &mut Reader<'a>) -> Result<&'a [u8], PacketFault>
     ensures { GivesAs (λ x. (tt, x.now)) malformed_at result ((mark byte ▹ rest).read reader.old) }
 {
     read_mark(byte, reader)?;

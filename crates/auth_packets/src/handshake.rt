@@ -2,8 +2,10 @@
 //! response ("Protocol::HandshakeResponse41").
 
 ghost use Rattle.auth_packets.specs.Faults.{malformed_at};
-ghost use Rattle.auth_packets.specs.Handshake.{IsWholeGreeting, answer, attributes, claim, client, database, greeting, greeting_text, nonce, nonce_end, nonce_text, opening, opening_text, response, session, session_text};
-ghost use Rattle.std.specs.Prelude.{◌≡◌, ◌↔◌, ◌++◌, Contains, IsTrue, OnOk, OnErr};
+ghost use Rattle.auth_packets.specs.Flags.{CONNECT_WITH_DB, LENENC_CLIENT_DATA, is_set};
+ghost use Rattle.auth_packets.specs.Handshake.{IsWholeGreeting, IsWholeResponse, answer, answer_text, attributes, attributes_text, claim, client, client_text, database, database_text, greeting, greeting_text, nonce, nonce_end, nonce_text, opening, opening_text, response, response_text, session, session_text};
+ghost use Rattle.std.specs.Bool.{OnFalse};
+ghost use Rattle.std.specs.Prelude.{◌≡◌, ◌↔◌, ◌<◌, [], ◌++◌, Contains, IfSome, IsTrue, OnOk, OnErr, is_some, length, unwrap_or};
 ghost use Rattle.wire_form.specs.Forms.{last_name, nothing};
 ghost use Rattle.wire_form.specs.Payloads.{Gives, GivesAs, IsReadAs, Steps, start};
 
@@ -13,7 +15,8 @@ use crate::fields::{
     read_optional_name,
 };
 use crate::flags::{
-    CONNECT_ATTRS, CONNECT_WITH_DB, PLUGIN_AUTH_LENENC_CLIENT_DATA, has_needed, is_set, read_flags, read_lower, read_upper,
+    CONNECT_ATTRS, CONNECT_WITH_DB, PLUGIN_AUTH_LENENC_CLIENT_DATA, has_needed, is_set, read_flags,
+    read_lower, read_upper,
 };
 use lg_base::{Bytes, Memory, Out, Reader};
 use std::alloc::Global;
@@ -263,6 +266,135 @@ impl Response {
     {
         read_response(alloc, payload)
     }
+
+    /// Whether the fields fit the layout: no 00 in the texts, the flags that both ends need, the optional
+    /// fields exactly where the flags tell of them, and an answer of at most 255 bytes where its length
+    /// has one byte.
+    pub fn is_whole(&self) -> bool
+        ensures { IsTrue result ↔ IsWholeResponse self.now }
+    {
+        if !has_needed(self.flags) {
+            return false;
+        }
+        if !has_no_zero(self.user.as_slice()) {
+            return false;
+        }
+        if !has_no_zero(self.plugin.as_slice()) {
+            return false;
+        }
+        if !self.answer_fits() {
+            return false;
+        }
+        if !self.database_fits() {
+            return false;
+        }
+        self.attributes.is_some() == is_set(CONNECT_ATTRS, self.flags)
+    }
+
+    /// Adds the payload of the response. After `Memory` nothing was added.
+    #[tactic(auto, using(crate::proofs::ResponseWritten::response_spelled))]
+    pub fn write(&self, out: &mut Out) -> Result<(), Memory>
+        requires { IsWholeResponse self.now }
+        ensures ok { OnOk result (out.new ≡ out.old ++ response_text self.now) }
+        ensures err { OnErr result (out.new ≡ out.old) }
+        ensures spelled { response.Spells self.now (response_text self.now) }
+    {
+        let _flags = self.flags;
+        let _max_packet = self.max_packet;
+        let _charset = self.charset;
+        let _answer_length = self.auth.as_slice().len();
+        let _attributes_length = self.attributes_bytes().len();
+        let mut text = out.beside();
+        write_response(self, &mut text)?;
+        out.bytes(text.as_slice())
+    }
+
+    /// The attributes, or no bytes where there are none.
+    fn attributes_bytes(&self) -> &[u8]
+        ensures { result.now ≡ unwrap_or self.now.attributes [] }
+    {
+        match &self.attributes {
+            None => &[],
+            Some(bytes) => bytes.as_slice(),
+        }
+    }
+
+    fn answer_fits(&self) -> bool
+        ensures { IsTrue result ↔ OnFalse (is_set LENENC_CLIENT_DATA self.now.flags) (length self.now.auth < 256) }
+    {
+        is_set(PLUGIN_AUTH_LENENC_CLIENT_DATA, self.flags) || self.auth.as_slice().len() < 256
+    }
+
+    fn database_fits(&self) -> bool
+        ensures { IsTrue result ↔ ((is_some self.now.database ≡ is_set CONNECT_WITH_DB self.now.flags) × IfSome self.now.database (λ text. ¬ Contains text 0)) }
+    {
+        match &self.database {
+            None => !is_set(CONNECT_WITH_DB, self.flags),
+            Some(text) => { is_set(CONNECT_WITH_DB, self.flags) && has_no_zero(text.as_slice()) }
+        }
+    }
+}
+
+#[tactic(auto, unfolding(crate::specs::Handshake::client_text))]
+fn write_client(response: &Response, out: &mut Out) -> Result<(), Memory>
+    requires { ¬ Contains response.now.user 0 }
+    ensures { OnOk result (out.new ≡ out.old ++ client_text response.now) }
+{
+    out.write_u32(response.flags)?;
+    out.write_u32(response.max_packet)?;
+    out.byte(response.charset)?;
+    out.bytes(&[0; 23])?;
+    out.nul_text(response.user.as_slice())
+}
+
+#[tactic(auto, unfolding(crate::specs::Handshake::answer_text))]
+fn write_answer(flags: u32, auth: &[u8], out: &mut Out) -> Result<(), Memory>
+    requires { OnFalse (is_set LENENC_CLIENT_DATA flags) (length auth.now < 256) }
+    ensures { OnOk result (out.new ≡ out.old ++ answer_text flags auth.now) }
+{
+    if is_set(PLUGIN_AUTH_LENENC_CLIENT_DATA, flags) {
+        out.lenenc(auth.len() as u64)?;
+    } else {
+        out.byte(auth.len() as u8)?;
+    }
+    out.bytes(auth)
+}
+
+#[tactic(auto, unfolding(crate::specs::Handshake::database_text))]
+fn write_database(database: &Option<Bytes>, out: &mut Out) -> Result<(), Memory>
+    requires { IfSome database.now (λ text. ¬ Contains text 0) }
+    ensures { OnOk result (out.new ≡ out.old ++ database_text database.now) }
+{
+    match database {
+        None => Ok(()),
+        Some(text) => out.nul_text(text.as_slice()),
+    }
+}
+
+#[tactic(auto, unfolding(crate::specs::Handshake::attributes_text))]
+fn write_attributes(attributes: &Option<Bytes>, out: &mut Out) -> Result<(), Memory>
+    ensures { OnOk result (out.new ≡ out.old ++ attributes_text attributes.now) }
+{
+    match attributes {
+        None => Ok(()),
+        Some(bytes) => {
+            out.lenenc(bytes.as_slice().len() as u64)?;
+            out.bytes(bytes.as_slice())
+        }
+    }
+}
+
+#[tactic(auto, unfolding(crate::specs::Handshake::response_text))]
+fn write_response(response: &Response, out: &mut Out) -> Result<(), Memory>
+    requires { IsWholeResponse response.now }
+    ensures { OnOk result (out.new ≡ out.old ++ response_text response.now) }
+{
+    write_client(response, out)?;
+    write_answer(response.flags, response.auth.as_slice(), out)?;
+    write_database(&response.database, out)?;
+    out.nul_text(response.plugin.as_slice())?;
+    write_attributes(&response.attributes, out)?;
+    out.bytes(response.rest.as_slice())
 }
 
 /// What a response begins with.
