@@ -12,6 +12,7 @@ pub mod fault;
 mod fields;
 pub mod flags;
 pub mod handshake;
+pub mod laws;
 pub mod replies;
 
 pub use commands::{ChangeUser, Command};

@@ -3,14 +3,14 @@ use Rattle.std.proofs.Common.{◌≡◌, ℕ, suc, ◌+◌, ◌-◌, ◌<◌, �
 use Rattle.std.proofs.Math.Seq.{take-append-add}
 use Rattle.lg_base.specs.Reading.{Cursor}
 use Rattle.wire_form.specs.Forms.{Form}
-use Rattle.wire_form.specs.Payloads.{Begins, IsFaultPlace, start, Gives, Answers, IsReadAs}
+use Rattle.wire_form.specs.Payloads.{Begins, IsFaultPlace, SpellsOne, start, Gives, Answers, IsReadAs}
 use Rattle.wire_form.proofs.Laws.{StopsAt, IsForm}
 use Rattle.wire_form.proofs.Whole.{value_as, no_fault}
 
 module _ {A : Type 0} (f : Form A) (is : IsForm f) where
   -- No payload spells two values.
-  pub one_value : (v w : A) (payload : List ℕ) → f.Spells v payload → f.Spells w payload → v ≡ w
-  one_value v w payload s t = same v w (sym (is.only (start payload) v s) ∙ is.only (start payload) w t)
+  pub one_value : SpellsOne f.Spells
+  one_value payload v w s t = same v w (sym (is.only (start payload) v s) ∙ is.only (start payload) w t)
     where
       same : (v w : A) → value_as v ≡ value_as w → v ≡ w
       same v w e = cc

@@ -14,6 +14,10 @@ pub record IsFaultPlace {A : Type 0} (Spells : A → List ℕ → Type 0) (paylo
   pub longest : (n : ℕ) → at < n → n ≤ length payload → Begins Spells (take n payload) → ⊥
   pub none : (a : A) → Spells a payload → ⊥
 
+-- no payload spells two values
+abbrev pub SpellsOne : {A : Type 0} → (A → List ℕ → Type 0) → Type 0
+SpellsOne {A} Spells = (payload : List ℕ) (v w : A) → Spells v payload → Spells w payload → v ≡ w
+
 -- A call answers this value, unless its error has no place in the payload.
 abbrev pub Answers : {A E : Type 0} → (E → Option ℕ) → Result A E → A → Type 0
 Answers fault_of (Ok v) w = v ≡ w
