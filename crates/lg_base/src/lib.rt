@@ -21,3 +21,6 @@ pub use input::{ReadFault, Reader};
 pub use item_list::Items;
 pub use names::{Host, Name};
 pub use output::Out;
+
+#[cfg(test)]
+mod tests;
