@@ -24,8 +24,8 @@ front_within-same (suc _) zero room want place (_ ∷ _ ∷ _ ∷ _ ∷ _) h k =
 front_within-same (suc m) (suc n) room want place (a ∷ b ∷ c ∷ id ∷ behind) h k =
     let size = little (a ∷ b ∷ c ∷ []) in
     ap (headed room want size id place behind)
-        (front_within-same m n (room - size) (Exactly (id_after id)) (place + 4 + size) (drop size behind)
-            (omega (arith, length-drop size behind)) (omega (arith, length-drop size behind)))
+    (front_within-same m n (room - size) (Exactly (id_after id)) (place + 4 + size) (drop size behind)
+    (omega (arith, length-drop size behind)) (omega (arith, length-drop size behind)))
 
 -- less than a header
 pub front-short : (limit : ℕ) (want : Want) (place : ℕ) (bytes : List ℕ) → length bytes < 4 → front limit want place bytes ≡ Part (4 - length bytes)
@@ -39,22 +39,22 @@ front-short limit want place (_ ∷ _ ∷ _ ∷ _ ∷ _) h = absurd (omega arith
 -- four bytes
 pub front-four : (limit : ℕ) (want : Want) (place a b c id : ℕ) (behind : List ℕ) →
     front limit want place (a ∷ b ∷ c ∷ id ∷ behind)
-        ≡ headed limit want (little (a ∷ b ∷ c ∷ [])) id place behind
-            (front (limit - little (a ∷ b ∷ c ∷ [])) (Exactly (id_after id)) (place + 4 + little (a ∷ b ∷ c ∷ []))
-                (drop (little (a ∷ b ∷ c ∷ [])) behind))
+    ≡ headed limit want (little (a ∷ b ∷ c ∷ [])) id place behind
+    (front (limit - little (a ∷ b ∷ c ∷ [])) (Exactly (id_after id)) (place + 4 + little (a ∷ b ∷ c ∷ []))
+    (drop (little (a ∷ b ∷ c ∷ [])) behind))
 unfolding front
 front-four limit want place a b c id behind =
     let size = little (a ∷ b ∷ c ∷ []) in
     let rest = drop size behind in
     ap (headed limit want size id place behind)
-        (front_within-same (suc (suc (suc (length behind)))) (length rest) (limit - size) (Exactly (id_after id)) (place + 4 + size) rest
-            (omega (arith, length-drop size behind)) (omega arith))
+    (front_within-same (suc (suc (suc (length behind)))) (length rest) (limit - size) (Exactly (id_after id)) (place + 4 + size) rest
+    (omega (arith, length-drop size behind)) (omega arith))
 
 -- a header
 pub front-header : (limit : ℕ) (want : Want) (place size id : ℕ) (behind : List ℕ) → size < 16777216 →
     front limit want place (header size id ++ behind)
-        ≡ headed limit want size id place behind
-            (front (limit - size) (Exactly (id_after id)) (place + 4 + size) (drop size behind))
+    ≡ headed limit want size id place behind
+    (front (limit - size) (Exactly (id_after id)) (place + 4 + size) (drop size behind))
 front-header limit want place size id behind h =
     front-four limit want place (size % 256) (size / 256 % 256) (size / 256 / 256 % 256) id behind
     ∙ ap (λ n. headed limit want n id place behind (front (limit - n) (Exactly (id_after id)) (place + 4 + n) (drop n behind))) (little_three size h)

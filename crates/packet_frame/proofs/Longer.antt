@@ -37,29 +37,29 @@ sized-stays room size id place behind more f g stays =
     let later = sized room size id place (behind ++ more) g in
     let longer : length behind ≤ length (behind ++ more) = omega (arith, length-append behind more) in
     elim (cases_lt room size) [
-    | inl large ↦ stays-by more now (Fault (TooLarge place)) later (Fault (TooLarge place)) (sized-large room size id place behind f large) (sized-large room size id place (behind ++ more) g large) refl
-    | inr fits ↦ elim (cases_lt (length behind) size) [
+      | inl large ↦ stays-by more now (Fault (TooLarge place)) later (Fault (TooLarge place)) (sized-large room size id place behind f large) (sized-large room size id place (behind ++ more) g large) refl
+      | inr fits ↦ elim (cases_lt (length behind) size) [
         | inl less ↦ stays-part more now later (size - length behind) (sized-part room size id place behind f fits less)
         | inr there ↦ elim (cases_eq size full_size) [
-            | inl full ↦
-                let payload_same : take full_size (behind ++ more) ≡ take full_size behind = take-append-le full_size behind more (omega (arith, there, full)) in
-                let now_is : now ≡ continued id (take full_size behind) f =
-                    ap (λ n. sized room n id place behind f) full ∙ sized-at_full room id place behind f (omega (arith, fits, full)) (omega (arith, there, full)) in
-                let later_is : later ≡ continued id (take full_size behind) g =
-                    ap (λ n. sized room n id place (behind ++ more) g) full
-                    ∙ sized-at_full room id place (behind ++ more) g (omega (arith, fits, full)) (omega (arith, there, full, longer))
-                    ∙ ap (λ p. continued id p g) payload_same in
-                stays-by more now (continued id (take full_size behind) f) later (continued id (take full_size behind) g) now_is later_is
-                    (continued-stays more id (take full_size behind) f g (stays there))
-            | inr other ↦
-                let later_is : later ≡ Whole id id (take size behind) (drop size behind ++ more) =
-                    sized-at_end room size id place (behind ++ more) g fits (omega (arith, there, longer)) other
-                    ∙ ap (λ p. Whole id id p (drop size (behind ++ more))) (take-append-le size behind more there)
-                    ∙ ap (Whole id id (take size behind)) (drop-append-le size behind more there) in
-                stays-by more now (Whole id id (take size behind) (drop size behind)) later (Whole id id (take size behind) (drop size behind ++ more))
-                    (sized-at_end room size id place behind f fits there other) later_is refl
-            ]
+          | inl full ↦
+              let payload_same : take full_size (behind ++ more) ≡ take full_size behind = take-append-le full_size behind more (omega (arith, there, full)) in
+              let now_is : now ≡ continued id (take full_size behind) f =
+              ap (λ n. sized room n id place behind f) full ∙ sized-at_full room id place behind f (omega (arith, fits, full)) (omega (arith, there, full)) in
+              let later_is : later ≡ continued id (take full_size behind) g =
+              ap (λ n. sized room n id place (behind ++ more) g) full
+              ∙ sized-at_full room id place (behind ++ more) g (omega (arith, fits, full)) (omega (arith, there, full, longer))
+              ∙ ap (λ p. continued id p g) payload_same in
+              stays-by more now (continued id (take full_size behind) f) later (continued id (take full_size behind) g) now_is later_is
+              (continued-stays more id (take full_size behind) f g (stays there))
+          | inr other ↦
+              let later_is : later ≡ Whole id id (take size behind) (drop size behind ++ more) =
+              sized-at_end room size id place (behind ++ more) g fits (omega (arith, there, longer)) other
+              ∙ ap (λ p. Whole id id p (drop size (behind ++ more))) (take-append-le size behind more there)
+              ∙ ap (Whole id id (take size behind)) (drop-append-le size behind more there) in
+              stays-by more now (Whole id id (take size behind) (drop size behind)) later (Whole id id (take size behind) (drop size behind ++ more))
+              (sized-at_end room size id place behind f fits there other) later_is refl
         ]
+      ]
     ]
 
 pub headed-stays : (room : ℕ) (want : Want) (size id place : ℕ) (behind more : List ℕ) (f g : Front) → (size ≤ length behind → StaysWith more f g) →
@@ -68,13 +68,13 @@ headed-stays room (Exactly wanted) size id place behind more f g stays =
     let now = headed room (Exactly wanted) size id place behind f in
     let later = headed room (Exactly wanted) size id place (behind ++ more) g in
     elim (cases_eq id wanted) [
-    | inl same ↦
-        stays-by more now (sized room size id place behind f) later (sized room size id place (behind ++ more) g)
-            (headed-wanted room (Exactly wanted) size id place behind f same) (headed-wanted room (Exactly wanted) size id place (behind ++ more) g same)
-            (sized-stays room size id place behind more f g stays)
-    | inr other ↦
-        stays-by more now (Fault (OutOfOrder place wanted id)) later (Fault (OutOfOrder place wanted id))
-            (headed-other room wanted size id place behind f other) (headed-other room wanted size id place (behind ++ more) g other) refl
+      | inl same ↦
+          stays-by more now (sized room size id place behind f) later (sized room size id place (behind ++ more) g)
+          (headed-wanted room (Exactly wanted) size id place behind f same) (headed-wanted room (Exactly wanted) size id place (behind ++ more) g same)
+          (sized-stays room size id place behind more f g stays)
+      | inr other ↦
+          stays-by more now (Fault (OutOfOrder place wanted id)) later (Fault (OutOfOrder place wanted id))
+          (headed-other room wanted size id place behind f other) (headed-other room wanted size id place (behind ++ more) g other) refl
     ]
 headed-stays room Any size id place behind more f g stays = sized-stays room size id place behind more f g stays
 
@@ -93,8 +93,8 @@ front-stays (suc most) limit want place (a ∷ b ∷ c ∷ id ∷ behind) more h
     let after = front (limit - size) (Exactly (id_after id)) (place + 4 + size) in
     let rest = drop size behind in
     stays-by more (front limit want place (a ∷ b ∷ c ∷ id ∷ behind)) (headed limit want size id place behind (after rest))
-        (front limit want place (a ∷ b ∷ c ∷ id ∷ (behind ++ more))) (headed limit want size id place (behind ++ more) (after (drop size (behind ++ more))))
-        (front-four limit want place a b c id behind) (front-four limit want place a b c id (behind ++ more))
-        (headed-stays limit want size id place behind more (after rest) (after (drop size (behind ++ more)))
-            (λ there. subst (λ r. StaysWith more (after rest) (after r)) (sym (drop-append-le size behind more there))
-                (front-stays most (limit - size) (Exactly (id_after id)) (place + 4 + size) rest more (omega (arith, length-drop size behind)))))
+    (front limit want place (a ∷ b ∷ c ∷ id ∷ (behind ++ more))) (headed limit want size id place (behind ++ more) (after (drop size (behind ++ more))))
+    (front-four limit want place a b c id behind) (front-four limit want place a b c id (behind ++ more))
+    (headed-stays limit want size id place behind more (after rest) (after (drop size (behind ++ more)))
+    (λ there. subst (λ r. StaysWith more (after rest) (after r)) (sym (drop-append-le size behind more there))
+    (front-stays most (limit - size) (Exactly (id_after id)) (place + 4 + size) rest more (omega (arith, length-drop size behind)))))

@@ -17,9 +17,10 @@ length-full_pieces (suc count) payload = ap suc (length-full_pieces count (drop 
 pub full_pieces-full : (count : ℕ) (payload : List ℕ) → count * full_size ≤ length payload → AllFull (full_pieces count payload)
 unfolding full_pieces
 full_pieces-full zero payload h = tt
-full_pieces-full (suc count) payload h =
-    (length-take-le full_size payload (omega arith),
-    full_pieces-full count (drop full_size payload) (omega (arith, length-drop full_size payload)))
+full_pieces-full (suc count) payload h = (
+  length-take-le full_size payload (omega arith),
+  full_pieces-full count (drop full_size payload) (omega (arith, length-drop full_size payload)),
+)
 
 pub concat-full_pieces : (count : ℕ) (payload : List ℕ) → count * full_size ≤ length payload → concat (full_pieces count payload) ++ drop (count * full_size) payload ≡ payload
 unfolding full_pieces
@@ -27,7 +28,7 @@ concat-full_pieces zero payload h = refl
 concat-full_pieces (suc count) payload h =
     let rest = drop full_size payload in
     let after : drop (suc count * full_size) payload ≡ drop (count * full_size) rest =
-        ap (λ n. drop n payload) (omega arith) ∙ sym (drop-drop (count * full_size) full_size payload) in
+    ap (λ n. drop n payload) (omega arith) ∙ sym (drop-drop (count * full_size) full_size payload) in
     append_assoc (take full_size payload) (concat (full_pieces count rest)) (drop (suc count * full_size) payload)
     ∙ ap (λ more. take full_size payload ++ (concat (full_pieces count rest) ++ more)) after
     ∙ ap (λ more. take full_size payload ++ more) (concat-full_pieces count rest (omega (arith, length-drop full_size payload)))
@@ -55,7 +56,7 @@ full_pieces-push zero payload h = ap (λ p. p ∷ []) (take_all full_size payloa
 full_pieces-push (suc count) payload h =
     let rest = drop full_size payload in
     let after : drop (count * full_size) rest ≡ drop (suc count * full_size) payload =
-        drop-drop (count * full_size) full_size payload ∙ ap (λ n. drop n payload) (omega arith) in
+    drop-drop (count * full_size) full_size payload ∙ ap (λ n. drop n payload) (omega arith) in
     ap (λ ps. take full_size payload ∷ ps) (full_pieces-push count rest (omega (arith, length-drop full_size payload)))
     ∙ ap (λ p. take full_size payload ∷ (full_pieces count rest ++ p ∷ [])) after
 
@@ -66,13 +67,19 @@ length-laid_pieces first count payload h =
 -- how many bytes were taken since the last packet
 pub length_held : (first count seen : ℕ) (head payload : List ℕ) → seen ≤ length head → count * full_size ≤ length payload →
     length (laid first (full_pieces count payload) ++ (take seen head ++ drop (count * full_size) payload))
-        ≡ count * 16777219 + seen + (length payload - count * full_size)
+    ≡ count * 16777219 + seen + (length payload - count * full_size)
 length_held first count seen head payload h k =
     let pieces = full_pieces count payload in
     let part = drop (count * full_size) payload in
-    omega (arith, length-append (laid first pieces) (take seen head ++ part), length-append (take seen head) part,
-        length-laid first pieces (full_pieces-full count payload k), length-full_pieces count payload,
-        length-take-le seen head h, length-drop (count * full_size) payload)
+    omega (
+      arith,
+      length-append (laid first pieces) (take seen head ++ part),
+      length-append (take seen head) part,
+      length-laid first pieces (full_pieces-full count payload k),
+      length-full_pieces count payload,
+      length-take-le seen head h,
+      length-drop (count * full_size) payload,
+    )
 
 pub id_at-after : (id count : ℕ) → id_at (id_after id) count ≡ id_after (id_at id count)
 id_at-after id zero = refl

@@ -16,8 +16,8 @@ pub laid-push : (first : ℕ) (full : List (List ℕ)) (payload : List ℕ) →
 laid-push first [] payload = ap (λ p. header (length payload) first ++ p) (append-nil payload)
 laid-push first (p ∷ ps) payload =
     ap (λ more. header (length p) first ++ more)
-        (ap (λ more. p ++ more) (laid-push (id_after first) ps payload)
-        ∙ sym (append_assoc p (laid (id_after first) ps) (header (length payload) (id_at (id_after first) (length ps)) ++ payload)))
+    (ap (λ more. p ++ more) (laid-push (id_after first) ps payload)
+    ∙ sym (append_assoc p (laid (id_after first) ps) (header (length payload) (id_at (id_after first) (length ps)) ++ payload)))
 
 pub concat-push : (full : List (List ℕ)) (payload : List ℕ) → concat (full ++ payload ∷ []) ≡ concat full ++ payload
 concat-push [] payload = append-nil payload
@@ -47,7 +47,7 @@ want_after-wanted want first (_ ∷ _) h = refl
 -- a full piece
 pub front-full : (limit : ℕ) (want : Want) (place id : ℕ) (payload behind : List ℕ) → Wants want id → length payload ≡ full_size → full_size ≤ limit →
     front limit want place (header (length payload) id ++ (payload ++ behind))
-        ≡ continued id payload (front (limit - full_size) (Exactly (id_after id)) (place + 4 + full_size) behind)
+    ≡ continued id payload (front (limit - full_size) (Exactly (id_after id)) (place + 4 + full_size) behind)
 front-full limit want place id payload behind w e h =
     let bytes = payload ++ behind in
     let more = front (limit - full_size) (Exactly (id_after id)) (place + 4 + full_size) in
@@ -59,7 +59,7 @@ front-full limit want place id payload behind w e h =
 
 pub front-laid : (full : List (List ℕ)) (limit : ℕ) (want : Want) (first place : ℕ) (tail : List ℕ) → AllFull full → Begins want first full → length (concat full) ≤ limit →
     front limit want place (laid first full ++ tail)
-        ≡ joined first full (front (limit - length (concat full)) (want_after want first full) (place + length (laid first full)) tail)
+    ≡ joined first full (front (limit - length (concat full)) (want_after want first full) (place + length (laid first full)) tail)
 front-laid [] limit want first place tail each begins h =
     let room : limit ≡ limit - 0 = omega arith in
     let at : place ≡ place + 0 = omega arith in
@@ -76,7 +76,7 @@ front-laid (p ∷ ps) limit want first place tail each begins h =
     ap (λ rest. front limit want place (header (length p) first ++ rest)) (append_assoc p laid_next tail)
     ∙ front-full limit want place first p (laid_next ++ tail) begins full (omega (arith, lengths, full, h))
     ∙ ap (continued first p)
-        (front-laid ps (limit - full_size) (Exactly next) next (place + 4 + full_size) tail each.1 (begins-next next ps) (omega (arith, lengths, full, h)))
+    (front-laid ps (limit - full_size) (Exactly next) next (place + 4 + full_size) tail each.1 (begins-next next ps) (omega (arith, lengths, full, h)))
     ∙ ap (λ want'. after (limit - full_size - length (concat ps)) want' (place + 4 + full_size + length laid_next)) (want_after-next next ps)
     ∙ ap (λ room. after room (Exactly (id_at next (length ps))) (place + 4 + full_size + length laid_next)) rooms
     ∙ ap (after (limit - length (p ++ concat ps)) (Exactly (id_at next (length ps)))) ats
@@ -99,7 +99,7 @@ joined-fault first (p ∷ ps) fault = ap (continued first p) (joined-fault (id_a
 -- what begins with whole full pieces that fit
 pub front-begun : (limit : ℕ) (want : Want) (total : ℕ) (next : Want) (before : List ℕ) (place : ℕ) (tail : List ℕ) (begun : IsBegun limit want total next before) →
     front limit want place (before ++ tail)
-        ≡ joined begun.first begun.full (front (limit - total) next (place + length before) tail)
+    ≡ joined begun.first begun.full (front (limit - total) next (place + length before) tail)
 front-begun limit want total next before place tail begun =
     let full = begun.full in
     let first = begun.first in
@@ -129,9 +129,9 @@ front-packet limit want first last payload head place behind packet =
     ∙ ap (front limit want place) (append_assoc bytes tail behind)
     ∙ front-laid full limit want first place (tail ++ behind) packet.each_full (begins-wanted want first full packet.wanted) (omega (arith, lengths, packet.fits))
     ∙ ap (joined first full)
-        (front-header room next (place + length bytes) (length ending) id (ending ++ behind) (omega (arith, packet.not_full))
-        ∙ headed-wanted room next (length ending) id (place + length bytes) (ending ++ behind) more (want_after-wanted want first full packet.wanted)
-        ∙ sized-whole room id (place + length bytes) ending behind more (omega (arith, lengths, packet.fits)) packet.not_full)
+    (front-header room next (place + length bytes) (length ending) id (ending ++ behind) (omega (arith, packet.not_full))
+    ∙ headed-wanted room next (length ending) id (place + length bytes) (ending ++ behind) more (want_after-wanted want first full packet.wanted)
+    ∙ sized-whole room id (place + length bytes) ending behind more (omega (arith, lengths, packet.fits)) packet.not_full)
     ∙ joined-whole first full id ending behind
     ∙ ap (λ p. Whole first id p behind) (sym payload_is)
     ∙ ap (λ l. Whole first l payload behind) (sym packet.ends_at)
@@ -160,21 +160,21 @@ front-fault limit want place fault bytes shown =
     ap (front limit want place) shown.laid_out
     ∙ front-begun limit want shown.total shown.next shown.before place (header shown.size shown.id ++ shown.behind) shown.begun
     ∙ ap (joined shown.begun.first shown.begun.full)
-        (front-refused (limit - shown.total) shown.next (place + length shown.before) shown.size shown.id shown.behind fault shown.in_range shown.refused)
+    (front-refused (limit - shown.total) shown.next (place + length shown.before) shown.size shown.id shown.behind fault shown.in_range shown.refused)
     ∙ joined-fault shown.begun.first shown.begun.full fault
 
 -- less than a header, or a header and less than its payload
 pub front-cut : (room : ℕ) (want : Want) (place missing : ℕ) (present : List ℕ) → IsCut room want missing present → front room want place present ≡ Part missing
 front-cut room want place missing present cut = elim cut [
-    | inl short ↦ front-short room want place present short.0 ∙ ap Part (omega (arith, short.1))
-    | inr (size, id, some, is, in_range, wanted, fits, less, missing_is) ↦
-        let more = front (room - size) (Exactly (id_after id)) (place + 4 + size) (drop size some) in
-        ap (front room want place) is
-        ∙ front-header room want place size id some in_range
-        ∙ headed-wanted room want size id place some more wanted
-        ∙ sized-part room size id place some more fits less
-        ∙ ap Part (omega (arith, missing_is))
-    ]
+  | inl short ↦ front-short room want place present short.0 ∙ ap Part (omega (arith, short.1))
+  | inr (size, id, some, is, in_range, wanted, fits, less, missing_is) ↦
+      let more = front (room - size) (Exactly (id_after id)) (place + 4 + size) (drop size some) in
+      ap (front room want place) is
+      ∙ front-header room want place size id some in_range
+      ∙ headed-wanted room want size id place some more wanted
+      ∙ sized-part room size id place some more fits less
+      ∙ ap Part (omega (arith, missing_is))
+]
 
 pub front-unfinished : (limit : ℕ) (want : Want) (place missing : ℕ) (bytes : List ℕ) →
     IsUnfinished limit want missing bytes → front limit want place bytes ≡ Part missing
@@ -182,7 +182,7 @@ front-unfinished limit want place missing bytes part =
     ap (front limit want place) part.laid_out
     ∙ front-begun limit want part.total part.next part.before place part.present part.begun
     ∙ ap (joined part.begun.first part.begun.full)
-        (front-cut (limit - part.total) part.next (place + length part.before) missing part.present part.cut)
+    (front-cut (limit - part.total) part.next (place + length part.before) missing part.present part.cut)
     ∙ joined-part part.begun.first part.begun.full missing
 
 -- what stands at the front of bytes is what is computed

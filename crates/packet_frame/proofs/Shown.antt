@@ -46,16 +46,16 @@ pub begun-more : (limit : ℕ) (want : Want) (id : ℕ) (piece : List ℕ) (tota
 begun-more limit want id piece total next before w e h begun =
     let full = begun.full in
     record {
-        first = id;
-        full = piece ∷ full;
-        each_full = (e, begun.each_full);
-        laid_out =
-            ap (λ b. header full_size id ++ (piece ++ b)) (begun.laid_out ∙ laid-first (id_after id) begun.first full begun.begins)
-            ∙ ap (λ size. header size id ++ (piece ++ laid (id_after id) full)) (sym e);
-        begins = w;
-        total_is = omega (arith, length-append piece (concat full), e, begun.total_is);
-        fits = omega (arith, begun.fits);
-        next_is = begun.next_is ∙ want_after-first (id_after id) begun.first full begun.begins;
+      first = id;
+      full = piece ∷ full;
+      each_full = (e, begun.each_full);
+      laid_out =
+          ap (λ b. header full_size id ++ (piece ++ b)) (begun.laid_out ∙ laid-first (id_after id) begun.first full begun.begins)
+          ∙ ap (λ size. header size id ++ (piece ++ laid (id_after id) full)) (sym e);
+      begins = w;
+      total_is = omega (arith, length-append piece (concat full), e, begun.total_is);
+      fits = omega (arith, begun.fits);
+      next_is = begun.next_is ∙ want_after-first (id_after id) begun.first full begun.begins;
     }
 
 pub packet-more : (limit : ℕ) (want : Want) (id : ℕ) (piece : List ℕ) (first last : ℕ) (payload head : List ℕ) →
@@ -65,17 +65,17 @@ packet-more limit want id piece first last payload head w e h packet =
     let full = packet.full in
     let ending = packet.ending in
     record {
-        full = piece ∷ full;
-        ending = ending;
-        each_full = (e, packet.each_full);
-        not_full = packet.not_full;
-        laid_out =
-            ap (λ b. header full_size id ++ (piece ++ b)) (packet.laid_out ∙ ap (λ i. laid i (full ++ ending ∷ [])) packet.wanted)
-            ∙ ap (λ size. header size id ++ (piece ++ laid (id_after id) (full ++ ending ∷ []))) (sym e);
-        joined = ap (λ p. piece ++ p) packet.joined;
-        wanted = w;
-        ends_at = packet.ends_at ∙ ap (λ i. id_at i (length full)) packet.wanted;
-        fits = omega (arith, length-append piece payload, e, packet.fits);
+      full = piece ∷ full;
+      ending = ending;
+      each_full = (e, packet.each_full);
+      not_full = packet.not_full;
+      laid_out =
+          ap (λ b. header full_size id ++ (piece ++ b)) (packet.laid_out ∙ ap (λ i. laid i (full ++ ending ∷ [])) packet.wanted)
+          ∙ ap (λ size. header size id ++ (piece ++ laid (id_after id) (full ++ ending ∷ []))) (sym e);
+      joined = ap (λ p. piece ++ p) packet.joined;
+      wanted = w;
+      ends_at = packet.ends_at ∙ ap (λ i. id_at i (length full)) packet.wanted;
+      fits = omega (arith, length-append piece payload, e, packet.fits);
     }
 
 pub rooms : (limit total : ℕ) → limit - full_size - total ≡ limit - (full_size + total)
@@ -90,41 +90,42 @@ pub fault-more : (limit : ℕ) (want : Want) (place id : ℕ) (piece rest : List
 fault-more limit want place id piece rest fault w e h shown =
     let refused = shown.refused in
     record {
-        before = header full_size id ++ (piece ++ shown.before);
-        total = full_size + shown.total;
-        next = shown.next;
-        begun = begun-more limit want id piece shown.total shown.next shown.before w e h shown.begun;
-        size = shown.size;
-        id = shown.id;
-        behind = shown.behind;
-        laid_out = ap (λ b. header full_size id ++ b) (ap (λ b. piece ++ b) shown.laid_out ∙ sym (append_assoc piece shown.before (header shown.size shown.id ++ shown.behind)));
-        in_range = shown.in_range;
-        refused =
-            let at_place = subst (λ at. IsRefused (limit - full_size - shown.total) shown.next at shown.size shown.id fault) (places place id piece shown.before e) shown.refused in
-            subst (λ room. IsRefused room shown.next (place + length (header full_size id ++ (piece ++ shown.before))) shown.size shown.id fault) (rooms limit shown.total) at_place;
+      before = header full_size id ++ (piece ++ shown.before);
+      total = full_size + shown.total;
+      next = shown.next;
+      begun = begun-more limit want id piece shown.total shown.next shown.before w e h shown.begun;
+      size = shown.size;
+      id = shown.id;
+      behind = shown.behind;
+      laid_out = ap (λ b. header full_size id ++ b) (ap (λ b. piece ++ b) shown.laid_out ∙ sym (append_assoc piece shown.before (header shown.size shown.id ++ shown.behind)));
+      in_range = shown.in_range;
+      refused =
+          let at_place = subst (λ at. IsRefused (limit - full_size - shown.total) shown.next at shown.size shown.id fault) (places place id piece shown.before e) shown.refused in
+          subst (λ room. IsRefused room shown.next (place + length (header full_size id ++ (piece ++ shown.before))) shown.size shown.id fault) (rooms limit shown.total) at_place;
     }
 
 pub unfinished-more : (limit : ℕ) (want : Want) (id : ℕ) (piece rest : List ℕ) (missing : ℕ) →
     Wants want id → length piece ≡ full_size → full_size ≤ limit → IsUnfinished (limit - full_size) (Exactly (id_after id)) missing rest →
     IsUnfinished limit want missing (header full_size id ++ (piece ++ rest))
 unfinished-more limit want id piece rest missing w e h part = record {
-    before = header full_size id ++ (piece ++ part.before);
-    total = full_size + part.total;
-    next = part.next;
-    begun = begun-more limit want id piece part.total part.next part.before w e h part.begun;
-    present = part.present;
-    laid_out = ap (λ b. header full_size id ++ b) (ap (λ b. piece ++ b) part.laid_out ∙ sym (append_assoc piece part.before part.present));
-    cut = subst (λ room. IsCut room part.next missing part.present) (rooms limit part.total) part.cut;
+  before = header full_size id ++ (piece ++ part.before);
+  total = full_size + part.total;
+  next = part.next;
+  begun = begun-more limit want id piece part.total part.next part.before w e h part.begun;
+  present = part.present;
+  laid_out = ap (λ b. header full_size id ++ b) (ap (λ b. piece ++ b) part.laid_out ∙ sym (append_assoc piece part.before part.present));
+  cut = subst (λ room. IsCut room part.next missing part.present) (rooms limit part.total) part.cut;
 }
 
 -- what stands at the front of bytes behind a full piece
 pub front-more : (limit : ℕ) (want : Want) (place id : ℕ) (piece rest : List ℕ) (found : Front) →
     Wants want id → length piece ≡ full_size → full_size ≤ limit → IsFront (limit - full_size) (Exactly (id_after id)) (place + 4 + full_size) rest found →
     IsFront limit want place (header full_size id ++ (piece ++ rest)) (continued id piece found)
-front-more limit want place id piece rest (Whole first last payload behind) w e h (head, is, packet) =
-    (header full_size id ++ (piece ++ head),
-    ap (λ b. header full_size id ++ b) (ap (λ b. piece ++ b) is ∙ sym (append_assoc piece head behind)),
-    packet-more limit want id piece first last payload head w e h packet)
+front-more limit want place id piece rest (Whole first last payload behind) w e h (head, is, packet) = (
+  header full_size id ++ (piece ++ head),
+  ap (λ b. header full_size id ++ b) (ap (λ b. piece ++ b) is ∙ sym (append_assoc piece head behind)),
+  packet-more limit want id piece first last payload head w e h packet,
+)
 front-more limit want place id piece rest (Part missing) w e h part = unfinished-more limit want id piece rest missing w e h part
 front-more limit want place id piece rest (Fault fault) w e h shown = fault-more limit want place id piece rest fault w e h shown
 
@@ -135,17 +136,19 @@ wants_or_not Any id = inl tt
 
 -- what stands at the front of bytes, for a header and what is behind it
 pub seen-short : (limit : ℕ) (want : Want) (place : ℕ) (bytes : List ℕ) → length bytes < 4 → (found : Front) × IsFront limit want place bytes found
-seen-short limit want place bytes h =
-    (Part (4 - length bytes),
-    record { before = []; total = 0; next = want; begun = begun-none limit want; present = bytes; laid_out = refl; cut = inl (h, omega arith) })
+seen-short limit want place bytes h = (
+  Part (4 - length bytes),
+  record { before = []; total = 0; next = want; begun = begun-none limit want; present = bytes; laid_out = refl; cut = inl (h, omega arith) },
+)
 
 pub seen-refused : (limit : ℕ) (want : Want) (place size id : ℕ) (behind : List ℕ) (fault : FrameFault) → size < 16777216 → IsRefused limit want place size id fault →
     (found : Front) × IsFront limit want place (header size id ++ behind) found
 seen-refused limit want place size id behind fault in_range refused =
     let at_place = subst (λ at. IsRefused limit want at size id fault) (omega arith) refused in
-    let in_room = subst (λ room. IsRefused room want (place + 0) size id fault) (omega arith) at_place in
-    (Fault fault,
-    record { before = []; total = 0; next = want; begun = begun-none limit want; size = size; id = id; behind = behind; laid_out = refl; in_range = in_range; refused = in_room })
+    let in_room = subst (λ room. IsRefused room want (place + 0) size id fault) (omega arith) at_place in (
+      Fault fault,
+      record { before = []; total = 0; next = want; begun = begun-none limit want; size = size; id = id; behind = behind; laid_out = refl; in_range = in_range; refused = in_room },
+    )
 
 pub seen-header : (limit : ℕ) (want : Want) (place size id : ℕ) (behind : List ℕ) → size < 16777216 →
     ((size ≤ limit) → (size ≤ length behind) → (found : Front) × IsFront (limit - size) (Exactly (id_after id)) (place + 4 + size) (drop size behind) found) →
@@ -153,36 +156,56 @@ pub seen-header : (limit : ℕ) (want : Want) (place size id : ℕ) (behind : Li
 seen-header limit want place size id behind in_range seen =
     let begun = begun-none limit want in
     elim (wants_or_not want id) [
-    | inr (wanted, exactly, other) ↦ seen-refused limit want place size id behind (OutOfOrder place wanted id) in_range (refl, exactly, refl, other)
-    | inl w ↦ elim (cases_lt limit size) [
+      | inr (wanted, exactly, other) ↦ seen-refused limit want place size id behind (OutOfOrder place wanted id) in_range (refl, exactly, refl, other)
+      | inl w ↦ elim (cases_lt limit size) [
         | inl large ↦ seen-refused limit want place size id behind (TooLarge place) in_range (refl, w, large)
         | inr fits ↦ elim (cases_lt (length behind) size) [
-            | inl less ↦
-                (Part (size - length behind),
-                record { before = []; total = 0; next = want; begun = begun; present = header size id ++ behind; laid_out = refl;
-                    cut = inr (size, id, behind, refl, in_range, w, omega arith, less, omega arith) })
-            | inr there ↦
-                let piece = take size behind in
-                let split = take-append-drop size behind in
-                let piece_length : length piece ≡ size = length-take-le size behind there in
-                elim (cases_eq size full_size) [
+          | inl less ↦ (
+            Part (size - length behind),
+            record {
+              before = [];
+              total = 0;
+              next = want;
+              begun = begun;
+              present = header size id ++ behind;
+              laid_out = refl;
+              cut = inr (size, id, behind, refl, in_range, w, omega arith, less, omega arith);
+            },
+          )
+          | inr there ↦
+              let piece = take size behind in
+              let split = take-append-drop size behind in
+              let piece_length : length piece ≡ size = length-take-le size behind there in
+              elim (cases_eq size full_size) [
                 | inl full ↦
                     let found = seen fits there in
                     let more = subst (λ n. IsFront (limit - n) (Exactly (id_after id)) (place + 4 + n) (drop size behind) found.0) full found.1 in
                     let all = front-more limit want place id piece (drop size behind) found.0 w (piece_length ∙ full) (omega arith) more in
-                    let at_size = subst (λ n. IsFront limit want place (header n id ++ (piece ++ drop size behind)) (continued id piece found.0)) (sym full) all in
-                    (continued id piece found.0,
-                    subst (λ b. IsFront limit want place (header size id ++ b) (continued id piece found.0)) split at_size)
-                | inr not_full ↦
-                    (Whole id id piece (drop size behind),
-                    (header size id ++ piece,
+                    let at_size = subst (λ n. IsFront limit want place (header n id ++ (piece ++ drop size behind)) (continued id piece found.0)) (sym full) all in (
+                      continued id piece found.0,
+                      subst (λ b. IsFront limit want place (header size id ++ b) (continued id piece found.0)) split at_size,
+                    )
+                | inr not_full ↦ (
+                  Whole id id piece (drop size behind),
+                  (
+                    header size id ++ piece,
                     ap (λ b. header size id ++ b) (sym split),
-                    record { full = []; ending = piece; each_full = tt; not_full = omega (arith, piece_length, in_range, not_full);
-                        laid_out = ap (λ n. header n id ++ piece) (sym piece_length) ∙ ap (λ b. header (length piece) id ++ b) (sym (append-nil piece));
-                        joined = sym (append-nil piece); wanted = w; ends_at = refl; fits = omega (arith, piece_length) }))
-                ]
-            ]
+                    record {
+                      full = [];
+                      ending = piece;
+                      each_full = tt;
+                      not_full = omega (arith, piece_length, in_range, not_full);
+                      laid_out = ap (λ n. header n id ++ piece) (sym piece_length) ∙ ap (λ b. header (length piece) id ++ b) (sym (append-nil piece));
+                      joined = sym (append-nil piece);
+                      wanted = w;
+                      ends_at = refl;
+                      fits = omega (arith, piece_length);
+                    },
+                  ),
+                )
+              ]
         ]
+      ]
     ]
 
 -- every list of bytes has something at its front
@@ -200,9 +223,9 @@ seen (suc most) limit want place (x ∷ y ∷ z ∷ id ∷ behind) h b =
     let hz : z < 256 = b 2 x (omega arith) in
     let after : All (λ x. x < 256) behind = λ k d l. b (suc (suc (suc (suc k)))) d (omega arith) in
     let rest : All (λ x. x < 256) (drop size behind) =
-        λ k d l. rw (get_or-drop size behind k d) (after (size + k) d (omega (arith, length-drop size behind))) in
+    λ k d l. rw (get_or-drop size behind k d) (after (size + k) d (omega (arith, length-drop size behind))) in
     let found = seen-header limit want place size id behind (little_below x y z hx hy hz)
-        (λ fits there. seen most (limit - size) (Exactly (id_after id)) (place + 4 + size) (drop size behind) (omega (arith, length-drop size behind)) rest) in
+    (λ fits there. seen most (limit - size) (Exactly (id_after id)) (place + 4 + size) (drop size behind) (omega (arith, length-drop size behind)) rest) in
     (found.0, subst (λ b. IsFront limit want place (b ++ behind) found.0) (sym (header_is x y z id hx hy hz)) found.1)
 
 -- what is computed of the front of bytes stands there

@@ -14,14 +14,14 @@ use Rattle.packet_frame.proofs.Pieces.{length-full_pieces, full_pieces-full, con
 
 pub begun : (p : Progress) → IsProgress p → IsBegun p.limit p.want (p.full * full_size) p.next (laid p.first (done p))
 begun p h = record {
-    first = p.first;
-    full = done p;
-    each_full = full_pieces-full p.full p.payload.items h.enough;
-    laid_out = refl;
-    begins = h.begins;
-    total_is = sym (length-concat-full_pieces p.full p.payload.items h.enough);
-    fits = h.fits;
-    next_is = h.next_is;
+  first = p.first;
+  full = done p;
+  each_full = full_pieces-full p.full p.payload.items h.enough;
+  laid_out = refl;
+  begins = h.begins;
+  total_is = sym (length-concat-full_pieces p.full p.payload.items h.enough);
+  fits = h.fits;
+  next_is = h.next_is;
 }
 
 -- the id of a header that is taken was wanted
@@ -41,15 +41,15 @@ pub unfinished-header : (p : Progress) → IsProgress p → p.seen < 4 → lengt
 unfinished-header p h seen none =
     let head = take p.seen p.header in
     let seen_is : length (head ++ present p) ≡ p.seen =
-        omega (arith, length-append head (present p), length-take-le p.seen p.header (omega (arith, h.four, seen)), length-drop (p.full * full_size) p.payload.items, none) in
+    omega (arith, length-append head (present p), length-take-le p.seen p.header (omega (arith, h.four, seen)), length-drop (p.full * full_size) p.payload.items, none) in
     record {
-        before = laid p.first (done p);
-        total = p.full * full_size;
-        next = p.next;
-        begun = begun p h;
-        present = head ++ present p;
-        laid_out = refl;
-        cut = inl (omega (arith, seen_is, seen), omega (arith, seen_is, seen));
+      before = laid p.first (done p);
+      total = p.full * full_size;
+      next = p.next;
+      begun = begun p h;
+      present = head ++ present p;
+      laid_out = refl;
+      cut = inl (omega (arith, seen_is, seen), omega (arith, seen_is, seen));
     }
 
 -- within a piece of payload
@@ -58,15 +58,23 @@ pub unfinished-payload : (p : Progress) (size : ℕ) → IsProgress p → IsAdmi
 unfinished-payload p size h admitted less =
     let part_length : length (present p) ≡ length p.payload.items - p.full * full_size = length-drop (p.full * full_size) p.payload.items in
     record {
-        before = laid p.first (done p);
-        total = p.full * full_size;
-        next = p.next;
-        begun = begun p h;
-        present = take p.seen p.header ++ present p;
-        laid_out = refl;
-        cut = inr (size, p.last, present p, ap (λ head. head ++ present p) (header-bytes p size h admitted),
-            omega (arith, admitted.in_range), last-wanted p size h admitted, omega (arith, admitted.fits),
-            omega (arith, part_length, less, h.enough), omega (arith, part_length, less, h.enough));
+      before = laid p.first (done p);
+      total = p.full * full_size;
+      next = p.next;
+      begun = begun p h;
+      present = take p.seen p.header ++ present p;
+      laid_out = refl;
+      cut = inr (
+        size,
+        p.last,
+        present p,
+        ap (λ head. head ++ present p) (header-bytes p size h admitted),
+        omega (arith, admitted.in_range),
+        last-wanted p size h admitted,
+        omega (arith, admitted.fits),
+        omega (arith, part_length, less, h.enough),
+        omega (arith, part_length, less, h.enough),
+      );
     }
 
 -- a whole packet
@@ -78,19 +86,19 @@ packet-ready p size h admitted not_full all =
     let count = length-full_pieces p.full p.payload.items in
     let last_is : p.last ≡ id_at p.first (length (done p)) = admitted.last_is ∙ ap (id_at p.first) (sym count) in
     record {
-        full = done p;
-        ending = ending;
-        each_full = full_pieces-full p.full p.payload.items h.enough;
-        not_full = omega (arith, part_length, not_full);
-        laid_out =
-            ap (λ head. laid p.first (done p) ++ (head ++ ending)) (header-bytes p size h admitted)
-            ∙ ap (λ n. laid p.first (done p) ++ (header n p.last ++ ending)) (sym part_length)
-            ∙ ap (λ id. laid p.first (done p) ++ (header (length ending) id ++ ending)) last_is
-            ∙ sym (laid-push p.first (done p) ending);
-        joined = sym (concat-full_pieces p.full p.payload.items h.enough) ∙ sym (concat-push (done p) ending);
-        wanted = admitted.wanted;
-        ends_at = last_is;
-        fits = omega (arith, all, admitted.fits);
+      full = done p;
+      ending = ending;
+      each_full = full_pieces-full p.full p.payload.items h.enough;
+      not_full = omega (arith, part_length, not_full);
+      laid_out =
+          ap (λ head. laid p.first (done p) ++ (head ++ ending)) (header-bytes p size h admitted)
+          ∙ ap (λ n. laid p.first (done p) ++ (header n p.last ++ ending)) (sym part_length)
+          ∙ ap (λ id. laid p.first (done p) ++ (header (length ending) id ++ ending)) last_is
+          ∙ sym (laid-push p.first (done p) ending);
+      joined = sym (concat-full_pieces p.full p.payload.items h.enough) ∙ sym (concat-push (done p) ending);
+      wanted = admitted.wanted;
+      ends_at = last_is;
+      fits = omega (arith, all, admitted.fits);
     }
 
 pub found-ready : (p : Progress) (size : ℕ) → IsProgress p → IsAdmitted p size → size < full_size → length p.payload.items ≡ p.full * full_size + size →
@@ -112,16 +120,16 @@ found-payload p size h admitted less =
 pub fault-refused : (p : Progress) (size id : ℕ) (fault : FrameFault) → IsProgress p → size < 16777216 → IsRefused (p.limit - p.full * full_size) p.next (header_place p) size id fault →
     IsFault p.limit p.want p.start fault (laid p.first (done p) ++ header size id)
 fault-refused p size id fault h in_range refused = record {
-    before = laid p.first (done p);
-    total = p.full * full_size;
-    next = p.next;
-    begun = begun p h;
-    size = size;
-    id = id;
-    behind = [];
-    laid_out = refl;
-    in_range = in_range;
-    refused = refused;
+  before = laid p.first (done p);
+  total = p.full * full_size;
+  next = p.next;
+  begun = begun p h;
+  size = size;
+  id = id;
+  behind = [];
+  laid_out = refl;
+  in_range = in_range;
+  refused = refused;
 }
 
 -- the bytes taken since the last packet are a packet, less than one, or show a fault
@@ -132,7 +140,7 @@ stands-reading p h (Payload size) at_part =
     subst (IsFront p.limit p.want p.start (framing p).held) (sym (found-payload p size h at_part.0 at_part.1)) (unfinished-payload p size h at_part.0 at_part.1)
 stands-reading p h Ready (size, admitted, less, all) =
     subst (IsFront p.limit p.want p.start (framing p).held) (sym (found-ready p size h admitted less all))
-        ((framing p).held, sym (append-nil (framing p).held), packet-ready p size h admitted less all)
+    ((framing p).held, sym (append-nil (framing p).held), packet-ready p size h admitted less all)
 stands-reading p h (Failed fault) at_fault =
     subst (IsFront p.limit p.want p.start (framing p).held) (sym (front-fault p.limit p.want p.start fault (framing p).held at_fault.2)) at_fault.2
 

@@ -29,19 +29,19 @@ pub takes_id : (count : ℕ) (payload : List ℕ) (want : Want) (first id first'
     Begins want first (full_pieces count payload) → Wants (want_after want first (full_pieces count payload)) id → TakesId count payload want first id first'
 unfolding full_pieces
 takes_id zero payload want first id first' none some begins wanted = record {
-    wanted = subst (Wants want) (sym (none refl)) wanted;
-    last_is = sym (none refl);
-    laid_is = refl;
-    next_is = refl;
-  }
+  wanted = subst (Wants want) (sym (none refl)) wanted;
+  last_is = sym (none refl);
+  laid_is = refl;
+  next_is = refl;
+}
 takes_id (suc count) payload want first id first' none some begins wanted =
     let same : first' ≡ first = some (omega arith) in
     let rest = full_pieces count (drop full_size payload) in
     record {
-        wanted = subst (Wants want) (sym same) begins;
-        last_is = wanted ∙ ap (id_at (id_after first)) (length-full_pieces count (drop full_size payload)) ∙ ap (λ i. id_at (id_after i) count) (sym same);
-        laid_is = ap (λ i. laid i (take full_size payload ∷ rest)) same;
-        next_is = ap (λ i. Exactly (id_at (id_after i) (length rest))) (sym same);
+      wanted = subst (Wants want) (sym same) begins;
+      last_is = wanted ∙ ap (id_at (id_after first)) (length-full_pieces count (drop full_size payload)) ∙ ap (λ i. id_at (id_after i) count) (sym same);
+      laid_is = ap (λ i. laid i (take full_size payload ∷ rest)) same;
+      next_is = ap (λ i. Exactly (id_at (id_after i) (length rest))) (sym same);
     }
 
 pub record Begun (p : Progress) (bytes : List ℕ) (p' : Progress) : Type 0 where
@@ -63,39 +63,45 @@ begun-piece p bytes size id first' stage' h at_header in_place is in_range wante
     let taking = takes_id p.full p.payload.items p.want p.first id first' none some h.begins (subst (λ want. Wants want id) h.next_is wanted) in
     let four : length bytes ≡ 4 = ap length is in
     let admitted : IsAdmitted p' size = record {
-            seen_all = refl; header_is = is; wanted = taking.wanted; last_is = taking.last_is; in_range = in_range; fits = fits } in
+      seen_all = refl;
+      header_is = is;
+      wanted = taking.wanted;
+      last_is = taking.last_is;
+      in_range = in_range;
+      fits = fits;
+    } in
     let held_length = length_held first' p.full 4 bytes p.payload.items (omega (arith, four)) h.enough in
     let sound : (stands : Stands p' stage') → IsProgress p' = λ stands. record {
-            four = four;
-            seen_in = omega arith;
-            begins = begins-wanted p.want first' (done p) taking.wanted;
-            next_is = h.next_is ∙ taking.next_is;
-            enough = h.enough;
-            fits = h.fits;
-            bounded = h.bounded;
-            in_place = omega (arith, held_length, in_place, length-laid_pieces p.first p.full p.payload.items h.enough, at_rest.1);
-            stands = stands;
-        } in
+      four = four;
+      seen_in = omega arith;
+      begins = begins-wanted p.want first' (done p) taking.wanted;
+      next_is = h.next_is ∙ taking.next_is;
+      enough = h.enough;
+      fits = h.fits;
+      bounded = h.bounded;
+      in_place = omega (arith, held_length, in_place, length-laid_pieces p.first p.full p.payload.items h.enough, at_rest.1);
+      stands = stands;
+    } in
     let nothing : present p ≡ [] = drop_all (p.full * full_size) p.payload.items (omega (arith, at_rest.1)) in
     let taken : framing p' ≡ record (framing p) { held = laid p.first (done p) ++ bytes } =
-        ap (λ pieces. record (framing p) { held = pieces ++ (take 4 bytes ++ present p) }) taking.laid_is
-        ∙ ap (λ part. record (framing p) { held = laid p.first (done p) ++ (take 4 bytes ++ part) }) nothing
-        ∙ ap (λ head. record (framing p) { held = laid p.first (done p) ++ head }) (append-nil (take 4 bytes) ∙ take_all 4 bytes (omega (arith, four))) in
+    ap (λ pieces. record (framing p) { held = pieces ++ (take 4 bytes ++ present p) }) taking.laid_is
+    ∙ ap (λ part. record (framing p) { held = laid p.first (done p) ++ (take 4 bytes ++ part) }) nothing
+    ∙ ap (λ head. record (framing p) { held = laid p.first (done p) ++ head }) (append-nil (take 4 bytes) ∙ take_all 4 bytes (omega (arith, four))) in
     elim (cases_lt 0 size) [
-    | inl more ↦
-        let stands : Stands p' stage' = subst (Stands p') (sym (payload more)) (admitted, omega (arith, at_rest.1)) in
-        record {
+      | inl more ↦
+          let stands : Stands p' stage' = subst (Stands p') (sym (payload more)) (admitted, omega (arith, at_rest.1)) in
+          record {
             sound = sound stands;
             taken = taken;
             no_fault = subst IsSound (sym (found-payload p' size (sound stands) admitted (omega (arith, at_rest.1)))) tt;
-        }
-    | inr empty ↦
-        let stands : Stands p' stage' = subst (Stands p') (sym (ready (omega arith))) (size, admitted, omega arith, omega (arith, at_rest.1)) in
-        record {
+          }
+      | inr empty ↦
+          let stands : Stands p' stage' = subst (Stands p') (sym (ready (omega arith))) (size, admitted, omega arith, omega (arith, at_rest.1)) in
+          record {
             sound = sound stands;
             taken = taken;
             no_fault = subst IsSound (sym (found-ready p' size (sound stands) admitted (omega arith) (omega (arith, at_rest.1)))) tt;
-        }
+          }
     ]
 
 -- a full piece was taken
@@ -120,29 +126,29 @@ ended-full-suc p h =
     let part_length : length (present p) ≡ full_size = omega (arith, length-drop (p.full * full_size) payload, h.all) in
     let nothing : drop (suc p.full * full_size) payload ≡ [] = drop_all (suc p.full * full_size) payload (omega (arith, h.all)) in
     let head_is : take p.seen p.header ≡ header full_size p.last =
-        ap (λ n. take n p.header) admitted.seen_all ∙ take_all 4 p.header (omega (arith, h.four)) ∙ admitted.header_is in
+    ap (λ n. take n p.header) admitted.seen_all ∙ take_all 4 p.header (omega (arith, h.four)) ∙ admitted.header_is in
     let laid_is : laid p.first (full_pieces (suc p.full) payload) ≡ laid p.first (done p) ++ (take p.seen p.header ++ present p) =
-        ap (laid p.first) pieces
-        ∙ laid-push p.first (done p) (present p)
-        ∙ ap (λ n. laid p.first (done p) ++ (header n (id_at p.first (length (done p))) ++ present p)) part_length
-        ∙ ap (λ id. laid p.first (done p) ++ (header full_size id ++ present p)) (ap (id_at p.first) (length-full_pieces p.full payload) ∙ sym admitted.last_is)
-        ∙ ap (λ head. laid p.first (done p) ++ (head ++ present p)) (sym head_is) in
+    ap (laid p.first) pieces
+    ∙ laid-push p.first (done p) (present p)
+    ∙ ap (λ n. laid p.first (done p) ++ (header n (id_at p.first (length (done p))) ++ present p)) part_length
+    ∙ ap (λ id. laid p.first (done p) ++ (header full_size id ++ present p)) (ap (id_at p.first) (length-full_pieces p.full payload) ∙ sym admitted.last_is)
+    ∙ ap (λ head. laid p.first (done p) ++ (head ++ present p)) (sym head_is) in
     let same : framing p' ≡ framing p =
-        ap (λ part. record (framing p) { held = laid p.first (full_pieces (suc p.full) payload) ++ part }) nothing
-        ∙ ap (λ bytes. record (framing p) { held = bytes }) (append-nil (laid p.first (full_pieces (suc p.full) payload)) ∙ laid_is) in
+    ap (λ part. record (framing p) { held = laid p.first (full_pieces (suc p.full) payload) ++ part }) nothing
+    ∙ ap (λ bytes. record (framing p) { held = bytes }) (append-nil (laid p.first (full_pieces (suc p.full) payload)) ∙ laid_is) in
     let sound : IsProgress p' = record {
-            four = h.four;
-            seen_in = omega arith;
-            begins = begins-wanted p.want p.first (full_pieces (suc p.full) payload) admitted.wanted;
-            next_is =
-                ap Exactly (ap id_after admitted.last_is ∙ sym (id_at-after p.first p.full))
-                ∙ sym (want_after-pieces p.full payload p.want p.first);
-            enough = omega (arith, h.all);
-            fits = omega (arith, admitted.fits);
-            bounded = h.bounded;
-            in_place = subst (λ v. place_of v ≤ 2 ^ 63) (sym same) h.in_place;
-            stands = (omega arith, omega (arith, h.all));
-        } in
+      four = h.four;
+      seen_in = omega arith;
+      begins = begins-wanted p.want p.first (full_pieces (suc p.full) payload) admitted.wanted;
+      next_is =
+          ap Exactly (ap id_after admitted.last_is ∙ sym (id_at-after p.first p.full))
+          ∙ sym (want_after-pieces p.full payload p.want p.first);
+      enough = omega (arith, h.all);
+      fits = omega (arith, admitted.fits);
+      bounded = h.bounded;
+      in_place = subst (λ v. place_of v ≤ 2 ^ 63) (sym same) h.in_place;
+      stands = (omega arith, omega (arith, h.all));
+    } in
     record { sound = sound; same = same; no_fault = subst IsSound (sym (found-header p' sound (omega arith) (omega (arith, h.all)))) tt }
 
 pub ended-full : (p : Progress) → IsBetween p full_size → (count : ℕ) → count ≡ suc p.full → Ended p (ended p (Exactly (id_after p.last)) count)
@@ -154,10 +160,24 @@ ended-short p size h less =
     let p' = record p { stage = Ready } in
     let admitted = h.admitted in
     let admitted' : IsAdmitted p' size = record {
-            seen_all = admitted.seen_all; header_is = admitted.header_is; wanted = admitted.wanted; last_is = admitted.last_is; in_range = admitted.in_range; fits = admitted.fits } in
+      seen_all = admitted.seen_all;
+      header_is = admitted.header_is;
+      wanted = admitted.wanted;
+      last_is = admitted.last_is;
+      in_range = admitted.in_range;
+      fits = admitted.fits;
+    } in
     let sound : IsProgress p' = record {
-            four = h.four; seen_in = omega (arith, admitted.seen_all); begins = h.begins; next_is = h.next_is; enough = omega (arith, h.all);
-            fits = omega (arith, admitted.fits); bounded = h.bounded; in_place = h.in_place; stands = (size, admitted', less, h.all) } in
+      four = h.four;
+      seen_in = omega (arith, admitted.seen_all);
+      begins = h.begins;
+      next_is = h.next_is;
+      enough = omega (arith, h.all);
+      fits = omega (arith, admitted.fits);
+      bounded = h.bounded;
+      in_place = h.in_place;
+      stands = (size, admitted', less, h.all);
+    } in
     record { sound = sound; same = refl; no_fault = subst IsSound (sym (found-ready p' size sound admitted' less h.all)) tt }
 
 -- bytes of the payload were taken
@@ -193,7 +213,7 @@ header-taken p piece count head seen stage h at_header counted is =
     let due_is = due-is (framing p) piece (4 - p.seen) count (found-header p h at_rest.0 at_rest.1) counted in
     ap (λ bytes. record (framing p) { held = laid p.first (done p) ++ (bytes ++ present p) }) is
     ∙ ap (λ bytes. record (framing p) { held = bytes })
-        (header-grown (laid p.first (done p)) (take p.seen p.header) (present p) (take count piece) (omega (arith, at_rest.1, length-drop (p.full * full_size) p.payload.items)))
+    (header-grown (laid p.first (done p)) (take p.seen p.header) (present p) (take count piece) (omega (arith, at_rest.1, length-drop (p.full * full_size) p.payload.items)))
     ∙ ap (λ more. fed (framing p) more) (sym due_is)
 
 pub header-counted : (p : Progress) (piece : List ℕ) (count : ℕ) → IsProgress p → p.stage ≡ Header →
@@ -213,10 +233,17 @@ header-goes-on p piece count head h at_header counted is four less in_place =
     let count_is = header-counted p piece count h at_header counted in
     let stands : Stands p' p.stage = subst (Stands p') (sym at_header) (less, at_rest.1) in
     let sound : IsProgress p' = record {
-            four = four; seen_in = omega arith; begins = h.begins; next_is = h.next_is; enough = h.enough; fits = h.fits; bounded = h.bounded;
-            in_place = subst (λ v. place_of v ≤ 2 ^ 63) (sym grown)
-                (omega (arith, in_place, count_is, counted, length-append (framing p).held (due (framing p) piece)));
-            stands = stands } in
+      four = four;
+      seen_in = omega arith;
+      begins = h.begins;
+      next_is = h.next_is;
+      enough = h.enough;
+      fits = h.fits;
+      bounded = h.bounded;
+      in_place = subst (λ v. place_of v ≤ 2 ^ 63) (sym grown)
+          (omega (arith, in_place, count_is, counted, length-append (framing p).held (due (framing p) piece)));
+      stands = stands;
+    } in
     record { grown = grown; counted = count_is; sound = subst IsSound (sym (found-header p' sound less at_rest.1)) tt }
 
 -- a header ends: what was taken then
@@ -253,14 +280,21 @@ header-refused p piece count head size id fault h at_header counted is four in_p
     let count_is = header-counted p piece count h at_header counted in
     let nothing : present p ≡ [] = drop_all (p.full * full_size) p.payload.items (omega (arith, at_rest.1)) in
     let bytes_are : take 4 head ++ present p ≡ header size id =
-        ap (λ part. take 4 head ++ part) nothing ∙ append-nil (take 4 head) ∙ take_all 4 head (omega (arith, four)) ∙ head_is in
+    ap (λ part. take 4 head ++ part) nothing ∙ append-nil (take 4 head) ∙ take_all 4 head (omega (arith, four)) ∙ head_is in
     let fault_is = subst (λ bytes. IsFault p.limit p.want p.start fault (laid p.first (done p) ++ bytes)) (sym bytes_are) (fault-refused p size id fault h in_range refused) in
     let shown : found (framing p') ≡ Fault fault = front-fault p.limit p.want p.start fault (framing p').held fault_is in
     let sound : IsProgress p' = record {
-            four = four; seen_in = omega arith; begins = h.begins; next_is = h.next_is; enough = h.enough; fits = h.fits; bounded = h.bounded;
-            in_place = subst (λ v. place_of v ≤ 2 ^ 63) (sym grown)
-                (omega (arith, in_place, count_is, counted, length-append (framing p).held (due (framing p) piece)));
-            stands = (refl, at_rest.1, fault_is) } in
+      four = four;
+      seen_in = omega arith;
+      begins = h.begins;
+      next_is = h.next_is;
+      enough = h.enough;
+      fits = h.fits;
+      bounded = h.bounded;
+      in_place = subst (λ v. place_of v ≤ 2 ^ 63) (sym grown)
+          (omega (arith, in_place, count_is, counted, length-append (framing p).held (due (framing p) piece)));
+      stands = (refl, at_rest.1, fault_is);
+    } in
     record { sound = sound; refused = refuses (framing p) piece (p.limit - p.full * full_size) p.next (header_place p) size id fault (framing p') refused grown shown }
 
 -- bytes of the payload were taken
@@ -284,25 +318,47 @@ payload-taken p size piece count w h at_payload counted is in_place =
     let count_is = due-length (framing p) piece missing count is_part counted in
     let grown = paid p w (take count piece) h.enough is ∙ ap (λ more. fed (framing p) more) (sym due_is) in
     let longer : length w.items ≡ length p.payload.items + count =
-        omega (arith, ap length is, length-append p.payload.items (take count piece), length-take-le count piece (omega (arith, counted))) in
+    omega (arith, ap length is, length-append p.payload.items (take count piece), length-take-le count piece (omega (arith, counted))) in
     let pieces_same : full_pieces p.full w.items ≡ done p = ap (full_pieces p.full) is ∙ full_pieces-append p.full p.payload.items (take count piece) h.enough in
     let begins = subst (Begins p.want p.first) (sym pieces_same) h.begins in
     let next_is = h.next_is ∙ ap (want_after p.want p.first) (sym pieces_same) in
     let placed = subst (λ v. place_of v ≤ 2 ^ 63) (sym grown)
-            (omega (arith, in_place, count_is, counted, length-append (framing p).held (due (framing p) piece))) in
+    (omega (arith, in_place, count_is, counted, length-append (framing p).held (due (framing p) piece))) in
     let admitted' : IsAdmitted p' size = record {
-            seen_all = admitted.seen_all; header_is = admitted.header_is; wanted = admitted.wanted; last_is = admitted.last_is; in_range = admitted.in_range; fits = admitted.fits } in
+      seen_all = admitted.seen_all;
+      header_is = admitted.header_is;
+      wanted = admitted.wanted;
+      last_is = admitted.last_is;
+      in_range = admitted.in_range;
+      fits = admitted.fits;
+    } in
     let sound : count < missing → IsProgress p' = λ less.
-        let stands : Stands p' p.stage = subst (Stands p') (sym at_payload) (admitted', omega (arith, longer, less)) in
-        record { four = h.four; seen_in = h.seen_in; begins = begins; next_is = next_is; enough = omega (arith, longer, h.enough); fits = h.fits; bounded = h.bounded;
-            in_place = placed; stands = stands } in
+    let stands : Stands p' p.stage = subst (Stands p') (sym at_payload) (admitted', omega (arith, longer, less)) in
     record {
-        grown = grown;
-        counted = count_is;
-        ends = λ all. record { four = h.four; begins = begins; bounded = h.bounded; in_place = placed; admitted = admitted';
-            all = omega (arith, longer, all, at_part.1, h.enough); next_is = next_is };
-        sound = sound;
-        no_fault = λ less. subst IsSound (sym (found-payload p' size (sound less) admitted' (omega (arith, longer, less)))) tt;
+      four = h.four;
+      seen_in = h.seen_in;
+      begins = begins;
+      next_is = next_is;
+      enough = omega (arith, longer, h.enough);
+      fits = h.fits;
+      bounded = h.bounded;
+      in_place = placed;
+      stands = stands;
+    } in
+    record {
+      grown = grown;
+      counted = count_is;
+      ends = λ all. record {
+        four = h.four;
+        begins = begins;
+        bounded = h.bounded;
+        in_place = placed;
+        admitted = admitted';
+        all = omega (arith, longer, all, at_part.1, h.enough);
+        next_is = next_is;
+      };
+      sound = sound;
+      no_fault = λ less. subst IsSound (sym (found-payload p' size (sound less) admitted' (omega (arith, longer, less)))) tt;
     }
 
 -- nothing is taken where a packet is whole
@@ -312,9 +368,9 @@ ready-waits p piece h at_ready =
     let whole = found-ready p at_end.0 h at_end.1 at_end.2 at_end.3 in
     let nothing : due (framing p) piece ≡ [] = ap (λ f. take (missing_of f) piece) whole in
     record {
-        grown = ap (λ bytes. record (framing p) { held = bytes }) (sym (append-nil (framing p).held)) ∙ ap (λ more. fed (framing p) more) (sym nothing);
-        counted = ap length (sym nothing);
-        sound = subst IsSound (sym whole) tt;
+      grown = ap (λ bytes. record (framing p) { held = bytes }) (sym (append-nil (framing p).held)) ∙ ap (λ more. fed (framing p) more) (sym nothing);
+      counted = ap length (sym nothing);
+      sound = subst IsSound (sym whole) tt;
     }
 
 -- a reader that found a fault stays
@@ -360,9 +416,15 @@ emptied-is p place payload none = ap (λ xs. record { limit = p.limit; want = Ex
 pub emptied-sound : (p : Progress) (place : ℕ) (payload : Vec ℕ) → IsProgress p → payload.items ≡ [] → place ≤ 2 ^ 63 → IsProgress (emptied p place payload)
 unfolding full_pieces
 emptied-sound p place payload h none in_place = record {
-    four = h.four; seen_in = omega arith; begins = tt; next_is = refl; enough = omega arith; fits = omega arith; bounded = h.bounded;
-    in_place = subst (λ v. place_of v ≤ 2 ^ 63) (sym (emptied-is p place payload none)) (omega arith);
-    stands = (omega arith, ap length none);
+  four = h.four;
+  seen_in = omega arith;
+  begins = tt;
+  next_is = refl;
+  enough = omega arith;
+  fits = omega arith;
+  bounded = h.bounded;
+  in_place = subst (λ v. place_of v ≤ 2 ^ 63) (sym (emptied-is p place payload none)) (omega arith);
+  stands = (omega arith, ap length none);
 }
 
 pub takes-packet : (p : Progress) (bytes : List ℕ) (place : ℕ) (payload : Vec ℕ) → IsProgress p → p.stage ≡ Ready →
@@ -371,11 +433,11 @@ pub takes-packet : (p : Progress) (bytes : List ℕ) (place : ℕ) (payload : Ve
 takes-packet p bytes place payload h at_ready all place_is none =
     let at_end = subst (Stands p) at_ready h.stands in
     record {
-        whole = found-ready p at_end.0 h at_end.1 at_end.2 at_end.3 ∙ ap (λ xs. Whole p.first p.last xs []) (sym all);
-        is_packet = subst (λ xs. IsPacket p.limit p.want p.first p.last xs (framing p).held) (sym all) (packet-ready p at_end.0 h at_end.1 at_end.2 at_end.3);
-        at_start = refl;
-        next_is = emptied-is p place payload none
-            ∙ ap (λ n. record { limit = p.limit; want = Exactly (id_after p.last); start = n; held = [] }) place_is;
+      whole = found-ready p at_end.0 h at_end.1 at_end.2 at_end.3 ∙ ap (λ xs. Whole p.first p.last xs []) (sym all);
+      is_packet = subst (λ xs. IsPacket p.limit p.want p.first p.last xs (framing p).held) (sym all) (packet-ready p at_end.0 h at_end.1 at_end.2 at_end.3);
+      at_start = refl;
+      next_is = emptied-is p place payload none
+          ∙ ap (λ n. record { limit = p.limit; want = Exactly (id_after p.last); start = n; held = [] }) place_is;
     }
 
 -- a fault was found where nothing more is read for that
@@ -391,9 +453,9 @@ fault-stage p h fault shown = fault-stands p h fault shown p.stage h.stands
 -- at least one byte is missing
 pub missing-more : (room : ℕ) (want : Want) (missing : ℕ) (present : List ℕ) → IsCut room want missing present → 0 < missing
 missing-more room want missing present cut = elim cut [
-    | inl short ↦ omega (arith, short.0, short.1)
-    | inr (size, id, some, is, in_range, wanted, fits, less, missing_is) ↦ omega (arith, less, missing_is)
-    ]
+  | inl short ↦ omega (arith, short.0, short.1)
+  | inr (size, id, some, is, in_range, wanted, fits, less, missing_is) ↦ omega (arith, less, missing_is)
+]
 
 pub fault-length : (limit : ℕ) (want : Want) (place : ℕ) (fault : FrameFault) (bytes : List ℕ) → IsFault limit want place fault bytes → 4 ≤ length bytes
 fault-length limit want place fault bytes shown =

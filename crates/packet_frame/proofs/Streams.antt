@@ -20,7 +20,15 @@ use Rattle.packet_frame.proofs.Shown.{seen}
 pub packet-fits : (limit fits : ℕ) (want wanted : Want) (first last : ℕ) (payload text : List ℕ) → IsPacket fits wanted first last payload text → Wants want first → length payload ≤ limit →
     IsPacket limit want first last payload text
 packet-fits limit fits want wanted first last payload text is wants less = record {
-    full = is.full; ending = is.ending; each_full = is.each_full; not_full = is.not_full; laid_out = is.laid_out; joined = is.joined; wanted = wants; ends_at = is.ends_at; fits = less;
+  full = is.full;
+  ending = is.ending;
+  each_full = is.each_full;
+  not_full = is.not_full;
+  laid_out = is.laid_out;
+  joined = is.joined;
+  wanted = wants;
+  ends_at = is.ends_at;
+  fits = less;
 }
 
 -- what stands at the front where a stream ends
@@ -75,10 +83,10 @@ pub streams-same : (limit : ℕ) (next : ℕ → Want) (want : Want) (place : �
 streams-same limit next want place bytes [] [] e g h k = (refl, endings-same limit want place bytes e g h k)
 streams-same limit next want place bytes [] (q ∷ qs) e g h (head, rest, split, at, is, more) =
     absurd (ending-no_packet e place (front limit want place bytes) q.first q.last q.payload rest
-        (front-ending limit want place bytes e h) (front-head limit want place bytes head rest q split is))
+    (front-ending limit want place bytes e h) (front-head limit want place bytes head rest q split is))
 streams-same limit next want place bytes (p ∷ ps) [] e g (head, rest, split, at, is, more) k =
     absurd (ending-no_packet g place (front limit want place bytes) p.first p.last p.payload rest
-        (front-ending limit want place bytes g k) (front-head limit want place bytes head rest p split is))
+    (front-ending limit want place bytes g k) (front-head limit want place bytes head rest p split is))
 streams-same limit next want place bytes (p ∷ ps) (q ∷ qs) e g (head, rest, split, at, is, more) (head', rest', split', at', is', more') =
     let x = front-head limit want place bytes head rest p split is in
     let y = front-head limit want place bytes head' rest' q split' is' in
@@ -88,7 +96,7 @@ streams-same limit next want place bytes (p ∷ ps) (q ∷ qs) e g (head, rest, 
     let payloads : p.payload ≡ q.payload = cc in
     let ats : p.at ≡ q.at = at ∙ sym at' in
     let lengths : length head' ≡ length head =
-        omega (arith, ap length split, ap length split', length-append head rest, length-append head' rest', ap length rests) in
+    omega (arith, ap length split, ap length split', length-append head rest, length-append head' rest', ap length rests) in
     let at_rest = subst (λ r. IsStream limit next (next q.last) (place + length head') r qs g) rests more' in
     let at_last = subst (λ l. IsStream limit next (next l) (place + length head') rest qs g) lasts at_rest in
     let at_place = subst (λ n. IsStream limit next (next p.last) (place + n) rest qs g) lengths at_last in
@@ -101,9 +109,14 @@ pub laid-goes_on : (limit : ℕ) (next : ℕ → Want) (E F : Want → ℕ → L
     ((want : Want) (place : ℕ) (rest : List ℕ) → E want place rest → F want place (rest ++ more)) →
     (want : Want) (place : ℕ) (bytes : List ℕ) (packets : List Packet) → AreLaid limit next E want place bytes packets → AreLaid limit next F want place (bytes ++ more) packets
 laid-goes_on limit next E F more f want place bytes [] h = f want place bytes h
-laid-goes_on limit next E F more f want place bytes (p ∷ ps) (head, rest, split, at, is, tail) =
-    (head, rest ++ more, ap (λ xs. xs ++ more) split ∙ append_assoc head rest more, at, is,
-    laid-goes_on limit next E F more f (next p.last) (place + length head) rest ps tail)
+laid-goes_on limit next E F more f want place bytes (p ∷ ps) (head, rest, split, at, is, tail) = (
+  head,
+  rest ++ more,
+  ap (λ xs. xs ++ more) split ∙ append_assoc head rest more,
+  at,
+  is,
+  laid-goes_on limit next E F more f (next p.last) (place + length head) rest ps tail,
+)
 
 pub laid-same : (limit : ℕ) (next : ℕ → Want) (E F : Want → ℕ → List ℕ → Type 0) →
     ((want : Want) (place : ℕ) (rest : List ℕ) → E want place rest → F want place rest) →
@@ -130,9 +143,9 @@ pub given-fed : (limit : ℕ) (next : ℕ → Want) (want : Want) (bytes : List 
     HasGiven limit next want bytes packets v → HasGiven limit next want (bytes ++ more) packets (fed v more)
 given-fed limit next want bytes packets v more h =
     laid-goes_on limit next
-        (λ wanted at rest. v ≡ record { limit = limit; want = wanted; start = at; held = rest })
-        (λ wanted at rest. fed v more ≡ record { limit = limit; want = wanted; start = at; held = rest })
-        more (λ wanted at rest is. ap (λ x. fed x more) is) want 0 bytes packets h
+    (λ wanted at rest. v ≡ record { limit = limit; want = wanted; start = at; held = rest })
+    (λ wanted at rest. fed v more ≡ record { limit = limit; want = wanted; start = at; held = rest })
+    more (λ wanted at rest is. ap (λ x. fed x more) is) want 0 bytes packets h
 
 -- a packet was taken out, and the id that is wanted then was set
 pub given-taken : (limit : ℕ) (next : ℕ → Want) (want : Want) (bytes : List ℕ) (packets : List Packet) (v : Framing) (packet : Packet) (w : Framing) →
@@ -140,40 +153,44 @@ pub given-taken : (limit : ℕ) (next : ℕ → Want) (want : Want) (bytes : Lis
 given-taken limit next want bytes packets v packet w h taken =
     let after = record w { want = next packet.last } in
     laid-push limit next
-        (λ wanted at rest. v ≡ record { limit = limit; want = wanted; start = at; held = rest })
-        (λ wanted at rest. after ≡ record { limit = limit; want = wanted; start = at; held = rest })
-        packet
-        (λ wanted at rest is.
-            (rest, [], sym (append-nil rest), taken.at_start ∙ ap (λ x. x.start) is,
-            subst (λ x. IsPacket x.limit x.want packet.first packet.last packet.payload x.held) is taken.is_packet,
-            ap {A = Framing} {B = Framing} (λ x. record x { want = next packet.last }) (taken.next_is ∙ ap {A = Framing} {B = Framing} (λ x. record { limit = x.limit; want = Exactly (id_after packet.last); start = place_of x; held = [] }) is)))
-        want 0 bytes packets h
+    (λ wanted at rest. v ≡ record { limit = limit; want = wanted; start = at; held = rest })
+    (λ wanted at rest. after ≡ record { limit = limit; want = wanted; start = at; held = rest })
+    packet
+    (λ wanted at rest is. (
+      rest,
+      [],
+      sym (append-nil rest),
+      taken.at_start ∙ ap (λ x. x.start) is,
+      subst (λ x. IsPacket x.limit x.want packet.first packet.last packet.payload x.held) is taken.is_packet,
+      ap {A = Framing} {B = Framing} (λ x. record x { want = next packet.last }) (taken.next_is ∙ ap {A = Framing} {B = Framing} (λ x. record { limit = x.limit; want = Exactly (id_after packet.last); start = place_of x; held = [] }) is),
+    ))
+    want 0 bytes packets h
 
 -- the stream ends with what is held
 pub given-ends : (limit : ℕ) (next : ℕ → Want) (want : Want) (bytes : List ℕ) (packets : List Packet) (v : Framing) (ending : Ending) →
     HasGiven limit next want bytes packets v → IsEnding v.limit v.want v.start v.held ending → IsStream limit next want 0 bytes packets ending
 given-ends limit next want bytes packets v ending h ends =
     laid-same limit next
-        (λ wanted at rest. v ≡ record { limit = limit; want = wanted; start = at; held = rest })
-        (λ wanted at rest. IsEnding limit wanted at rest ending)
-        (λ wanted at rest is. subst (λ x. IsEnding x.limit x.want x.start x.held ending) is ends) want 0 bytes packets h
+    (λ wanted at rest. v ≡ record { limit = limit; want = wanted; start = at; held = rest })
+    (λ wanted at rest. IsEnding limit wanted at rest ending)
+    (λ wanted at rest is. subst (λ x. IsEnding x.limit x.want x.start x.held ending) is ends) want 0 bytes packets h
 
 -- a fault stays the first one, whatever follows it
 pub fault-goes_on : (limit : ℕ) (want : Want) (place : ℕ) (fault : FrameFault) (bytes more : List ℕ) → IsFault limit want place fault bytes → IsFault limit want place fault (bytes ++ more)
 fault-goes_on limit want place fault bytes more shown = record {
-    before = shown.before;
-    total = shown.total;
-    next = shown.next;
-    begun = shown.begun;
-    size = shown.size;
-    id = shown.id;
-    behind = shown.behind ++ more;
-    laid_out =
-        ap (λ b. b ++ more) shown.laid_out
-        ∙ append_assoc shown.before (header shown.size shown.id ++ shown.behind) more
-        ∙ ap (λ b. shown.before ++ b) (append_assoc (header shown.size shown.id) shown.behind more);
-    in_range = shown.in_range;
-    refused = shown.refused;
+  before = shown.before;
+  total = shown.total;
+  next = shown.next;
+  begun = shown.begun;
+  size = shown.size;
+  id = shown.id;
+  behind = shown.behind ++ more;
+  laid_out =
+      ap (λ b. b ++ more) shown.laid_out
+      ∙ append_assoc shown.before (header shown.size shown.id ++ shown.behind) more
+      ∙ ap (λ b. shown.before ++ b) (append_assoc (header shown.size shown.id) shown.behind more);
+  in_range = shown.in_range;
+  refused = shown.refused;
 }
 
 pub due-is-taken : (v : Framing) (piece : List ℕ) → due v piece ≡ take (length (due v piece)) piece
@@ -186,7 +203,7 @@ pub faulty-stream : (limit : ℕ) (next : ℕ → Want) (want : Want) (place : �
     IsStream limit next want place bytes packets (Faulty fault) → IsStream limit next want place (bytes ++ more) packets (Faulty fault)
 faulty-stream limit next want place bytes packets fault more h =
     laid-goes_on limit next (λ wanted at rest. IsEnding limit wanted at rest (Faulty fault)) (λ wanted at rest. IsEnding limit wanted at rest (Faulty fault)) more
-        (λ wanted at rest shown. fault-goes_on limit wanted at fault rest more shown) want place bytes packets h
+    (λ wanted at rest shown. fault-goes_on limit wanted at fault rest more shown) want place bytes packets h
 
 -- any run of a reader gives packets of the bytes that it was fed
 pub run-given : (limit : ℕ) (next : ℕ → Want) (want : Want) (moves : List Move) (bytes : List ℕ) (packets : List Packet) (v w : Framing) →
@@ -214,13 +231,13 @@ packet-length limit want first last payload bytes is =
 pub seen-stream : (most : ℕ) (limit : ℕ) (next : ℕ → Want) (want : Want) (place x : ℕ) (xs : List ℕ) → length (x ∷ xs) ≤ suc most → All (λ y. y < 256) (x ∷ xs) →
     (found : Front) → IsFront limit want place (x ∷ xs) found →
     ((rest : List ℕ) → length rest ≤ most → All (λ y. y < 256) rest → (at : ℕ) (wanted : Want) →
-        (packets : List Packet) × (ending : Ending) × IsStream limit next wanted at rest packets ending) →
+    (packets : List Packet) × (ending : Ending) × IsStream limit next wanted at rest packets ending) →
     (packets : List Packet) × (ending : Ending) × IsStream limit next want place (x ∷ xs) packets ending
 seen-stream most limit next want place x xs h b (Whole first last payload behind) (head, split, is) goes_on =
     let packet : Packet = record { first = first; last = last; at = place; payload = payload } in
     let lengths = ap length split ∙ length-append head behind in
     let after : All (λ y. y < 256) behind = λ k d l.
-        subst (λ y. y < 256) (ap (λ ys. get_or ys (length head + k) d) split ∙ get_or-append-add head behind k d) (b (length head + k) d (omega (arith, lengths, l))) in
+    subst (λ y. y < 256) (ap (λ ys. get_or ys (length head + k) d) split ∙ get_or-append-add head behind k d) (b (length head + k) d (omega (arith, lengths, l))) in
     let rest = goes_on behind (omega (arith, lengths, h, packet-length limit want first last payload head is)) after (place + length head) (next last) in
     (packet ∷ rest.0, rest.1, (head, behind, split, refl, is, rest.2))
 seen-stream most limit next want place x xs h b (Part missing) part goes_on = ([], Cut place, (λ none. cc, refl, missing, part))
@@ -234,8 +251,8 @@ streams-seen zero limit next want place (_ ∷ _) h b = absurd (omega arith)
 streams-seen (suc most) limit next want place (x ∷ xs) h b =
     let there = seen (length (x ∷ xs)) limit want place (x ∷ xs) (omega arith) b in
     let goes_on : (rest : List ℕ) → length rest ≤ most → All (λ y. y < 256) rest → (at : ℕ) (wanted : Want) →
-            (packets : List Packet) × (ending : Ending) × IsStream limit next wanted at rest packets ending =
-        λ rest l bs at wanted. streams-seen most limit next wanted at rest l bs in
+    (packets : List Packet) × (ending : Ending) × IsStream limit next wanted at rest packets ending =
+    λ rest l bs at wanted. streams-seen most limit next wanted at rest l bs in
     seen-stream most limit next want place x xs h b there.0 there.1 goes_on
 
 -- a reader from the start of a stream to its end
@@ -245,4 +262,4 @@ pub run-stream : (limit : ℕ) (next : ℕ → Want) (want : Want) (moves : List
 run-stream limit next want moves v ending run ends =
     let start : Framing = record { limit = limit; want = want; start = 0; held = [] } in
     given-ends limit next want (bytes_of moves) (packets_of moves) v ending
-        (run-given limit next want moves [] [] start v (given-nothing limit next want) run) ends
+    (run-given limit next want moves [] [] start v (given-nothing limit next want) run) ends

@@ -43,8 +43,8 @@ front_within _ room want place (_ ∷ _ ∷ _ ∷ []) = Part 1
 front_within zero room want place (_ ∷ _ ∷ _ ∷ _ ∷ _) = Part 4
 front_within (suc most) room want place (a ∷ b ∷ c ∷ id ∷ behind) =
     headed room want (little (a ∷ b ∷ c ∷ [])) id place behind
-        (front_within most (room - little (a ∷ b ∷ c ∷ [])) (Exactly (id_after id))
-            (place + 4 + little (a ∷ b ∷ c ∷ [])) (drop (little (a ∷ b ∷ c ∷ [])) behind))
+    (front_within most (room - little (a ∷ b ∷ c ∷ [])) (Exactly (id_after id))
+    (place + 4 + little (a ∷ b ∷ c ∷ [])) (drop (little (a ∷ b ∷ c ∷ [])) behind))
 
 -- What stands at the front of bytes, whose first one stands at a place of the stream: a packet with a
 -- wanted first id and at most so many bytes of payload, less than one, or a fault.

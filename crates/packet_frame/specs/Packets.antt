@@ -101,7 +101,7 @@ abbrev pub IsCut : (room : ℕ) → Want → (missing : ℕ) → List ℕ → Ty
 IsCut room want missing present =
     ((length present < 4) × (length present + missing ≡ 4))
     ⊎ ((size id : ℕ) × (some : List ℕ) × (present ≡ header size id ++ some) × (size < 16777216) × Wants want id
-        × (size ≤ room) × (length some < size) × (length some + missing ≡ size))
+    × (size ≤ room) × (length some < size) × (length some + missing ≡ size))
 
 -- The bytes are less than a packet, and show no fault. So many more bytes end the header or the piece of
 -- payload that they end in.

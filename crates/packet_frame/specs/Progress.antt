@@ -21,11 +21,11 @@ done p = full_pieces p.full p.payload.items
 -- the bytes taken since the last packet: the full pieces, and the present header and its payload
 abbrev pub framing : Progress → Framing
 framing p = record {
-    limit = p.limit;
-    want = p.want;
-    start = p.start;
-    held = laid p.first (done p) ++ (take p.seen p.header ++ present p);
-  }
+  limit = p.limit;
+  want = p.want;
+  start = p.start;
+  held = laid p.first (done p) ++ (take p.seen p.header ++ present p);
+}
 
 -- the place of the present header
 abbrev pub header_place : Progress → ℕ

@@ -16,3 +16,6 @@ pub mod writing;
 pub use frames::Frames;
 pub use packets::{FrameFault, Packet, Want};
 pub use writing::write_packet;
+
+#[cfg(test)]
+mod tests;

@@ -7,6 +7,9 @@ ghost use Rattle.std.specs.Prelude.{◌≡◌};
 use lg_base::Bytes;
 use std::alloc::AllocError;
 
+/// A piece with so many bytes of payload is continued by the next one.
+pub const FULL: usize = 16_777_215;
+
 /// Which sequence id the next packet must begin with.
 #[derive(Clone, Copy, Debug, PartialEq, Eq)]
 pub enum Want {

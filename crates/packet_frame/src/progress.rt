@@ -8,13 +8,10 @@ ghost use Rattle.packet_frame.specs.Packets.{full_size, laid, header as header_b
 ghost use Rattle.packet_frame.specs.Progress.{framing, done, header_place, IsProgress, IsBetween};
 ghost use Rattle.std.specs.Prelude.{◌≡◌, ℕ, ◌+◌, ◌-◌, ◌*◌, ◌^◌, ◌<◌, ◌≤◌, ◌++◌, [], length, take, IfOk, IfErr, IfSome, IfNone, IsTrue, ◌↔◌};
 
-use crate::packets::{FrameFault, Packet, Want};
+use crate::packets::{FULL, FrameFault, Packet, Want};
 use lg_base::Bytes;
 use std::alloc::Global;
 use std::mem;
-
-/// A piece with so many bytes of payload is continued by the next one.
-const FULL: usize = 16_777_215;
 
 /// What is read next.
 #[derive(Clone, Copy)]

@@ -5,10 +5,8 @@
 ghost use Rattle.packet_frame.specs.Packets.{header, WritesPacket, WritesPieces};
 ghost use Rattle.std.specs.Prelude.{◌≡◌, ◌<◌, ◌++◌, ℕ, List, length, IfOk, OnOk, OnErr};
 
+use crate::packets::FULL;
 use lg_base::{Memory, Out};
-
-/// A piece with so many bytes of payload is continued by the next one.
-const FULL: usize = 16_777_215;
 
 /// Adds the packet with this payload and this first sequence id, and answers the id that comes after its
 /// last one. After `Memory`, `out` is unchanged.

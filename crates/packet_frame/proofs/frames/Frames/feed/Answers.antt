@@ -14,6 +14,6 @@ returns-clause-nothing c =
     let p = c.self.inside.progress in
     let piece = c.args.piece.now in
     subst (λ v. IfOk c.feed.result (λ count. (count ≡ 0) ↔ ((piece ≡ []) ⊎ IsWhole (found v)))) c.self.view_is
-        (IfOk-weaker c.feed.result _ _
-            (λ count takes. takes-nothing (framing p) (found (framing p)) refl (progress-reading p c.self.invariant) piece count (framing c.feed.new.self) takes)
-            c.feed.ensures.ok)
+    (IfOk-weaker c.feed.result _ _
+    (λ count takes. takes-nothing (framing p) (found (framing p)) refl (progress-reading p c.self.invariant) piece count (framing c.feed.new.self) takes)
+    c.feed.ensures.ok)

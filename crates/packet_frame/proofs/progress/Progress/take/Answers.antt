@@ -12,4 +12,4 @@ returns-clause-some c =
     let none : c.replace.new.dest.items ≡ [] = ap (λ v. v.items) c.replace.ensures.after ∙ c.new.ensures.items in
     let all = c.from_vec.ensures ∙ ap (λ v. v.items) c.replace.ensures.value in
     takes-packet c.args.self.now c.from_vec.result c.place-place.result c.replace.new.dest c.requires
-        (c.is_ready.ensures.stage (search rules)) all c.place-place.ensures.value none
+    (c.is_ready.ensures.stage (search rules)) all c.place-place.ensures.value none
