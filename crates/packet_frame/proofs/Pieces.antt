@@ -2,12 +2,12 @@
 use Rattle.std.proofs.Common.{◌≡◌, ℕ, zero, suc, ◌+◌, ◌-◌, ◌*◌, ◌≤◌, List, [], ◌∷◌, ◌++◌, length, take, drop, refl, sym, ap, ◌∙◌, arith, length-append, length-drop, append_assoc}
 use Rattle.std.specs.List.{concat}
 use Rattle.std.proofs.lemmas.List.{length-take-le, take-append-le, drop-append-le, drop-drop, take-append-drop, take_all}
-use Rattle.packet_frame.specs.Packets.{full_size, id_after, id_at, laid, AllFull}
+use Rattle.packet_frame.specs.Packets.{full_size, id_after, id_at, pieces_text, AllFull}
 use Rattle.packet_frame.specs.Progress.{full_pieces}
 
-pub length-laid : (id : ℕ) (full : List (List ℕ)) → AllFull full → length (laid id full) ≡ length full * 16777219
-length-laid id [] each = refl
-length-laid id (p ∷ ps) each = omega (arith, length-append p (laid (id_after id) ps), length-laid (id_after id) ps each.1, each.0)
+pub length-pieces_text : (id : ℕ) (full : List (List ℕ)) → AllFull full → length (pieces_text id full) ≡ length full * 16777219
+length-pieces_text id [] each = refl
+length-pieces_text id (p ∷ ps) each = omega (arith, length-append p (pieces_text (id_after id) ps), length-pieces_text (id_after id) ps each.1, each.0)
 
 pub length-full_pieces : (count : ℕ) (payload : List ℕ) → length (full_pieces count payload) ≡ count
 unfolding full_pieces
@@ -60,22 +60,22 @@ full_pieces-push (suc count) payload h =
     ap (λ ps. take full_size payload ∷ ps) (full_pieces-push count rest (omega (arith, length-drop full_size payload)))
     ∙ ap (λ p. take full_size payload ∷ (full_pieces count rest ++ p ∷ [])) after
 
-pub length-laid_pieces : (first count : ℕ) (payload : List ℕ) → count * full_size ≤ length payload → length (laid first (full_pieces count payload)) ≡ count * 16777219
+pub length-laid_pieces : (first count : ℕ) (payload : List ℕ) → count * full_size ≤ length payload → length (pieces_text first (full_pieces count payload)) ≡ count * 16777219
 length-laid_pieces first count payload h =
-    omega (arith, length-laid first (full_pieces count payload) (full_pieces-full count payload h), length-full_pieces count payload)
+    omega (arith, length-pieces_text first (full_pieces count payload) (full_pieces-full count payload h), length-full_pieces count payload)
 
 -- how many bytes were taken since the last packet
 pub length_held : (first count seen : ℕ) (head payload : List ℕ) → seen ≤ length head → count * full_size ≤ length payload →
-    length (laid first (full_pieces count payload) ++ (take seen head ++ drop (count * full_size) payload))
+    length (pieces_text first (full_pieces count payload) ++ (take seen head ++ drop (count * full_size) payload))
     ≡ count * 16777219 + seen + (length payload - count * full_size)
 length_held first count seen head payload h k =
     let pieces = full_pieces count payload in
     let part = drop (count * full_size) payload in
     omega (
       arith,
-      length-append (laid first pieces) (take seen head ++ part),
+      length-append (pieces_text first pieces) (take seen head ++ part),
       length-append (take seen head) part,
-      length-laid first pieces (full_pieces-full count payload k),
+      length-pieces_text first pieces (full_pieces-full count payload k),
       length-full_pieces count payload,
       length-take-le seen head h,
       length-drop (count * full_size) payload,

@@ -5,17 +5,17 @@ use Rattle.packet_frame.specs.declared.packets.FrameFault.{FrameFault}
 use Rattle.packet_frame.specs.declared.progress.Progress.{Progress}
 use Rattle.packet_frame.specs.declared.progress.Stage.{Stage}
 use Rattle.packet_frame.specs.declared.progress.Stage.TheVariants.{Header, Payload, Ready, Failed}
-use Rattle.packet_frame.specs.Packets.{full_size, id_at, header, laid, Wants, want_after, IsPacket, IsBegun, IsRefused, IsFault, IsUnfinished}
+use Rattle.packet_frame.specs.Packets.{full_size, id_at, header_text, pieces_text, Wants, want_after, IsPacket, IsBegun, IsRefused, IsFault, IsUnfinished}
 use Rattle.packet_frame.specs.Front.{Whole, Part, front, IsFront}
-use Rattle.packet_frame.specs.Framing.{found, IsReading}
-use Rattle.packet_frame.specs.Progress.{present, done, framing, header_place, IsAdmitted, Stands, IsProgress}
-use Rattle.packet_frame.proofs.Readings.{front-packet, front-fault, front-unfinished, want_after-wanted, concat-push, laid-push}
+use Rattle.packet_frame.specs.Framing.{front_of, IsReading}
+use Rattle.packet_frame.specs.Progress.{present_payload, done_pieces, framing, header_place, IsAdmitted, Stands, IsProgress}
+use Rattle.packet_frame.proofs.Readings.{front-packet, front-fault, front-unfinished, want_after-wanted, concat-push, pieces_text-push}
 use Rattle.packet_frame.proofs.Pieces.{length-full_pieces, full_pieces-full, concat-full_pieces, length-concat-full_pieces}
 
-pub begun : (p : Progress) → IsProgress p → IsBegun p.limit p.want (p.full * full_size) p.next (laid p.first (done p))
+pub begun : (p : Progress) → IsProgress p → IsBegun p.limit p.want (p.full * full_size) p.next (pieces_text p.first (done_pieces p))
 begun p h = record {
   first = p.first;
-  full = done p;
+  full = done_pieces p;
   each_full = full_pieces-full p.full p.payload.items h.enough;
   laid_out = refl;
   begins = h.begins;
@@ -27,12 +27,12 @@ begun p h = record {
 -- the id of a header that is taken was wanted
 pub last-wanted : (p : Progress) (size : ℕ) → IsProgress p → IsAdmitted p size → Wants p.next p.last
 last-wanted p size h admitted =
-    let last_is : id_at p.first (length (done p)) ≡ p.last = ap (id_at p.first) (length-full_pieces p.full p.payload.items) ∙ sym admitted.last_is in
-    let wanted = subst (Wants (want_after p.want p.first (done p))) last_is (want_after-wanted p.want p.first (done p) admitted.wanted) in
+    let last_is : id_at p.first (length (done_pieces p)) ≡ p.last = ap (id_at p.first) (length-full_pieces p.full p.payload.items) ∙ sym admitted.last_is in
+    let wanted = subst (Wants (want_after p.want p.first (done_pieces p))) last_is (want_after-wanted p.want p.first (done_pieces p) admitted.wanted) in
     subst (λ want. Wants want p.last) (sym h.next_is) wanted
 
 -- the bytes of a header that is taken
-pub header-bytes : (p : Progress) (size : ℕ) → IsProgress p → IsAdmitted p size → take p.seen p.header ≡ header size p.last
+pub header-bytes : (p : Progress) (size : ℕ) → IsProgress p → IsAdmitted p size → take p.seen p.header ≡ header_text size p.last
 header-bytes p size h admitted =
     ap (λ n. take n p.header) admitted.seen_all ∙ take_all 4 p.header (omega (arith, h.four)) ∙ admitted.header_is
 
@@ -40,14 +40,14 @@ header-bytes p size h admitted =
 pub unfinished-header : (p : Progress) → IsProgress p → p.seen < 4 → length p.payload.items ≡ p.full * full_size → IsUnfinished p.limit p.want (4 - p.seen) (framing p).held
 unfinished-header p h seen none =
     let head = take p.seen p.header in
-    let seen_is : length (head ++ present p) ≡ p.seen =
-    omega (arith, length-append head (present p), length-take-le p.seen p.header (omega (arith, h.four, seen)), length-drop (p.full * full_size) p.payload.items, none) in
+    let seen_is : length (head ++ present_payload p) ≡ p.seen =
+    omega (arith, length-append head (present_payload p), length-take-le p.seen p.header (omega (arith, h.four, seen)), length-drop (p.full * full_size) p.payload.items, none) in
     record {
-      before = laid p.first (done p);
+      before = pieces_text p.first (done_pieces p);
       total = p.full * full_size;
       next = p.next;
       begun = begun p h;
-      present = head ++ present p;
+      present = head ++ present_payload p;
       laid_out = refl;
       cut = inl (omega (arith, seen_is, seen), omega (arith, seen_is, seen));
     }
@@ -56,19 +56,19 @@ unfinished-header p h seen none =
 pub unfinished-payload : (p : Progress) (size : ℕ) → IsProgress p → IsAdmitted p size → length p.payload.items < p.full * full_size + size →
     IsUnfinished p.limit p.want (p.full * full_size + size - length p.payload.items) (framing p).held
 unfinished-payload p size h admitted less =
-    let part_length : length (present p) ≡ length p.payload.items - p.full * full_size = length-drop (p.full * full_size) p.payload.items in
+    let part_length : length (present_payload p) ≡ length p.payload.items - p.full * full_size = length-drop (p.full * full_size) p.payload.items in
     record {
-      before = laid p.first (done p);
+      before = pieces_text p.first (done_pieces p);
       total = p.full * full_size;
       next = p.next;
       begun = begun p h;
-      present = take p.seen p.header ++ present p;
+      present = take p.seen p.header ++ present_payload p;
       laid_out = refl;
       cut = inr (
         size,
         p.last,
-        present p,
-        ap (λ head. head ++ present p) (header-bytes p size h admitted),
+        present_payload p,
+        ap (λ head. head ++ present_payload p) (header-bytes p size h admitted),
         omega (arith, admitted.in_range),
         last-wanted p size h admitted,
         omega (arith, admitted.fits),
@@ -81,46 +81,46 @@ unfinished-payload p size h admitted less =
 pub packet-ready : (p : Progress) (size : ℕ) → IsProgress p → IsAdmitted p size → size < full_size → length p.payload.items ≡ p.full * full_size + size →
     IsPacket p.limit p.want p.first p.last p.payload.items (framing p).held
 packet-ready p size h admitted not_full all =
-    let ending = present p in
+    let ending = present_payload p in
     let part_length : length ending ≡ size = omega (arith, length-drop (p.full * full_size) p.payload.items, all) in
     let count = length-full_pieces p.full p.payload.items in
-    let last_is : p.last ≡ id_at p.first (length (done p)) = admitted.last_is ∙ ap (id_at p.first) (sym count) in
+    let last_is : p.last ≡ id_at p.first (length (done_pieces p)) = admitted.last_is ∙ ap (id_at p.first) (sym count) in
     record {
-      full = done p;
+      full = done_pieces p;
       ending = ending;
       each_full = full_pieces-full p.full p.payload.items h.enough;
       not_full = omega (arith, part_length, not_full);
       laid_out =
-          ap (λ head. laid p.first (done p) ++ (head ++ ending)) (header-bytes p size h admitted)
-          ∙ ap (λ n. laid p.first (done p) ++ (header n p.last ++ ending)) (sym part_length)
-          ∙ ap (λ id. laid p.first (done p) ++ (header (length ending) id ++ ending)) last_is
-          ∙ sym (laid-push p.first (done p) ending);
-      joined = sym (concat-full_pieces p.full p.payload.items h.enough) ∙ sym (concat-push (done p) ending);
+          ap (λ head. pieces_text p.first (done_pieces p) ++ (head ++ ending)) (header-bytes p size h admitted)
+          ∙ ap (λ n. pieces_text p.first (done_pieces p) ++ (header_text n p.last ++ ending)) (sym part_length)
+          ∙ ap (λ id. pieces_text p.first (done_pieces p) ++ (header_text (length ending) id ++ ending)) last_is
+          ∙ sym (pieces_text-push p.first (done_pieces p) ending);
+      joined = sym (concat-full_pieces p.full p.payload.items h.enough) ∙ sym (concat-push (done_pieces p) ending);
       wanted = admitted.wanted;
       ends_at = last_is;
       fits = omega (arith, all, admitted.fits);
     }
 
 pub found-ready : (p : Progress) (size : ℕ) → IsProgress p → IsAdmitted p size → size < full_size → length p.payload.items ≡ p.full * full_size + size →
-    found (framing p) ≡ Whole p.first p.last p.payload.items []
+    front_of (framing p) ≡ Whole p.first p.last p.payload.items []
 found-ready p size h admitted not_full all =
     let held = (framing p).held in
     ap (front p.limit p.want p.start) (sym (append-nil held))
     ∙ front-packet p.limit p.want p.first p.last p.payload.items held p.start [] (packet-ready p size h admitted not_full all)
 
-pub found-header : (p : Progress) → IsProgress p → p.seen < 4 → length p.payload.items ≡ p.full * full_size → found (framing p) ≡ Part (4 - p.seen)
+pub found-header : (p : Progress) → IsProgress p → p.seen < 4 → length p.payload.items ≡ p.full * full_size → front_of (framing p) ≡ Part (4 - p.seen)
 found-header p h seen none = front-unfinished p.limit p.want p.start (4 - p.seen) (framing p).held (unfinished-header p h seen none)
 
 pub found-payload : (p : Progress) (size : ℕ) → IsProgress p → IsAdmitted p size → length p.payload.items < p.full * full_size + size →
-    found (framing p) ≡ Part (p.full * full_size + size - length p.payload.items)
+    front_of (framing p) ≡ Part (p.full * full_size + size - length p.payload.items)
 found-payload p size h admitted less =
     front-unfinished p.limit p.want p.start (p.full * full_size + size - length p.payload.items) (framing p).held (unfinished-payload p size h admitted less)
 
 -- a header that is refused
 pub fault-refused : (p : Progress) (size id : ℕ) (fault : FrameFault) → IsProgress p → size < 16777216 → IsRefused (p.limit - p.full * full_size) p.next (header_place p) size id fault →
-    IsFault p.limit p.want p.start fault (laid p.first (done p) ++ header size id)
+    IsFault p.limit p.want p.start fault (pieces_text p.first (done_pieces p) ++ header_text size id)
 fault-refused p size id fault h in_range refused = record {
-  before = laid p.first (done p);
+  before = pieces_text p.first (done_pieces p);
   total = p.full * full_size;
   next = p.next;
   begun = begun p h;

@@ -7,13 +7,13 @@ use Rattle.packet_frame.specs.declared.packets.Want.{Want}
 use Rattle.packet_frame.specs.declared.packets.Want.TheVariants.{Exactly}
 use Rattle.packet_frame.specs.declared.packets.Packet.{Packet}
 use Rattle.packet_frame.specs.declared.packets.FrameFault.{FrameFault}
-use Rattle.packet_frame.specs.Packets.{id_after, id_at, header, laid, Wants, IsPacket, IsFault}
+use Rattle.packet_frame.specs.Packets.{id_after, id_at, header_text, pieces_text, Wants, IsPacket, IsFault}
 use Rattle.packet_frame.specs.Front.{Front, Whole, Part, Fault, front, IsFront}
-use Rattle.packet_frame.specs.Framing.{Framing, found, fed, missing_of, due, place_of, TakesPacket}
+use Rattle.packet_frame.specs.Framing.{Framing, front_of, with_bytes, missing_of, due_bytes, place_of, TakesPacket}
 use Rattle.packet_frame.specs.Streams.{Ending, Between, Cut, Faulty, IsEnding, AreLaid, IsStream, HasGiven, Move, Feeds, Gives, bytes_of, packets_of, IsRun}
 use Rattle.packet_frame.proofs.Fronts.{front-short}
 use Rattle.packet_frame.proofs.Readings.{front-packet, front-fault, front-unfinished}
-use Rattle.packet_frame.proofs.Readings.{laid-push as laid-push-end}
+use Rattle.packet_frame.proofs.Readings.{pieces_text-push}
 use Rattle.packet_frame.proofs.Shown.{seen}
 
 -- a packet with at most so many bytes and an id that is wanted, of a packet that fits another limit
@@ -139,13 +139,13 @@ pub given-nothing : (limit : ℕ) (next : ℕ → Want) (want : Want) → HasGiv
 given-nothing limit next want = refl
 
 -- further bytes were taken
-pub given-fed : (limit : ℕ) (next : ℕ → Want) (want : Want) (bytes : List ℕ) (packets : List Packet) (v : Framing) (more : List ℕ) →
-    HasGiven limit next want bytes packets v → HasGiven limit next want (bytes ++ more) packets (fed v more)
-given-fed limit next want bytes packets v more h =
+pub given-with_bytes : (limit : ℕ) (next : ℕ → Want) (want : Want) (bytes : List ℕ) (packets : List Packet) (v : Framing) (more : List ℕ) →
+    HasGiven limit next want bytes packets v → HasGiven limit next want (bytes ++ more) packets (with_bytes v more)
+given-with_bytes limit next want bytes packets v more h =
     laid-goes_on limit next
     (λ wanted at rest. v ≡ record { limit = limit; want = wanted; start = at; held = rest })
-    (λ wanted at rest. fed v more ≡ record { limit = limit; want = wanted; start = at; held = rest })
-    more (λ wanted at rest is. ap (λ x. fed x more) is) want 0 bytes packets h
+    (λ wanted at rest. with_bytes v more ≡ record { limit = limit; want = wanted; start = at; held = rest })
+    more (λ wanted at rest is. ap (λ x. with_bytes x more) is) want 0 bytes packets h
 
 -- a packet was taken out, and the id that is wanted then was set
 pub given-taken : (limit : ℕ) (next : ℕ → Want) (want : Want) (bytes : List ℕ) (packets : List Packet) (v : Framing) (packet : Packet) (w : Framing) →
@@ -187,15 +187,15 @@ fault-goes_on limit want place fault bytes more shown = record {
   behind = shown.behind ++ more;
   laid_out =
       ap (λ b. b ++ more) shown.laid_out
-      ∙ append_assoc shown.before (header shown.size shown.id ++ shown.behind) more
-      ∙ ap (λ b. shown.before ++ b) (append_assoc (header shown.size shown.id) shown.behind more);
+      ∙ append_assoc shown.before (header_text shown.size shown.id ++ shown.behind) more
+      ∙ ap (λ b. shown.before ++ b) (append_assoc (header_text shown.size shown.id) shown.behind more);
   in_range = shown.in_range;
   refused = shown.refused;
 }
 
-pub due-is-taken : (v : Framing) (piece : List ℕ) → due v piece ≡ take (length (due v piece)) piece
+pub due-is-taken : (v : Framing) (piece : List ℕ) → due_bytes v piece ≡ take (length (due_bytes v piece)) piece
 due-is-taken v piece =
-    let n = missing_of (found v) in
+    let n = missing_of (front_of v) in
     sym (take_min n piece) ∙ ap (λ m. take m piece) (sym (length-take n piece))
 
 -- a stream that ends at a fault is that stream whatever follows
@@ -212,8 +212,8 @@ run-given limit next want [] bytes packets v w h run =
     let none = subst (λ x. HasGiven limit next want bytes packets x) (sym run) h in
     subst (λ b. HasGiven limit next want b (packets ++ []) w) (sym (append-nil bytes)) (subst (λ p. HasGiven limit next want bytes p w) (sym (append-nil packets)) none)
 run-given limit next want (Feeds piece count ∷ moves) bytes packets v w h (u, grown, counted, run) =
-    let more = due v piece in
-    let now = subst (λ x. HasGiven limit next want (bytes ++ more) packets x) (sym grown) (given-fed limit next want bytes packets v more h) in
+    let more = due_bytes v piece in
+    let now = subst (λ x. HasGiven limit next want (bytes ++ more) packets x) (sym grown) (given-with_bytes limit next want bytes packets v more h) in
     let rest = run-given limit next want moves (bytes ++ more) packets u w now run in
     let taken_is : more ≡ take count piece = due-is-taken v piece ∙ ap (λ n. take n piece) (sym counted) in
     subst (λ b. HasGiven limit next want b (packets ++ packets_of moves) w) (append_assoc bytes more (bytes_of moves) ∙ ap (λ m. bytes ++ (m ++ bytes_of moves)) taken_is) rest
@@ -224,8 +224,8 @@ run-given limit next want (Gives packet ∷ moves) bytes packets v w h (u, takes
 
 pub packet-length : (limit : ℕ) (want : Want) (first last : ℕ) (payload bytes : List ℕ) → IsPacket limit want first last payload bytes → 4 ≤ length bytes
 packet-length limit want first last payload bytes is =
-    let tail = header (length is.ending) (id_at first (length is.full)) ++ is.ending in
-    omega (arith, ap length (is.laid_out ∙ laid-push-end first is.full is.ending), length-append (laid first is.full) tail)
+    let tail = header_text (length is.ending) (id_at first (length is.full)) ++ is.ending in
+    omega (arith, ap length (is.laid_out ∙ pieces_text-push first is.full is.ending), length-append (pieces_text first is.full) tail)
 
 -- the stream that begins with what stands at the front
 pub seen-stream : (most : ℕ) (limit : ℕ) (next : ℕ → Want) (want : Want) (place x : ℕ) (xs : List ℕ) → length (x ∷ xs) ≤ suc most → All (λ y. y < 256) (x ∷ xs) →

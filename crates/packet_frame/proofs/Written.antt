@@ -1,8 +1,8 @@
 -- The pieces of a packet that is written.
 use Rattle.std.proofs.Common.{◌≡◌, ℕ, ◌<◌, List, [], ◌∷◌, ◌++◌, length, refl, sym, ap, ◌∙◌, arith, append_assoc}
 use Rattle.std.specs.List.{concat}
-use Rattle.packet_frame.specs.Packets.{full_size, id_after, id_at, header, laid, AllFull, WritesPacket, WritesPieces}
-use Rattle.packet_frame.proofs.Readings.{laid-push, concat-push}
+use Rattle.packet_frame.specs.Packets.{full_size, id_after, id_at, header_text, pieces_text, AllFull, WritesPacket, WritesPieces}
+use Rattle.packet_frame.proofs.Readings.{pieces_text-push, concat-push}
 
 pub AllFull-push : (full : List (List ℕ)) (piece : List ℕ) → AllFull full → length piece ≡ full_size → AllFull (full ++ piece ∷ [])
 AllFull-push [] piece each e = (e, tt)
@@ -14,7 +14,7 @@ id_at-push first (p ∷ ps) piece = id_at-push (id_after first) ps piece
 
 -- one more full piece
 pub pieces-more : (first : ℕ) (payload : List ℕ) (id : ℕ) (rest piece behind old now new : List ℕ) → WritesPieces first payload id rest old now →
-    rest ≡ piece ++ behind → length piece ≡ full_size → new ≡ now ++ (header (length piece) id ++ piece) → WritesPieces first payload (id_after id) behind old new
+    rest ≡ piece ++ behind → length piece ≡ full_size → new ≡ now ++ (header_text (length piece) id ++ piece) → WritesPieces first payload (id_after id) behind old new
 pieces-more first payload id rest piece behind old now new written split full added = record {
   full = written.full ++ piece ∷ [];
   each_full = AllFull-push written.full piece written.each_full full;
@@ -23,23 +23,23 @@ pieces-more first payload id rest piece behind old now new written split full ad
       ∙ ap (λ xs. xs ++ behind) (sym (concat-push written.full piece));
   id_is = ap id_after written.id_is ∙ sym (id_at-push first written.full piece);
   added =
-      added ∙ ap (λ xs. xs ++ (header (length piece) id ++ piece)) written.added
-      ∙ append_assoc old (laid first written.full) (header (length piece) id ++ piece)
-      ∙ ap (λ i. old ++ (laid first written.full ++ (header (length piece) i ++ piece))) written.id_is
-      ∙ ap (λ xs. old ++ xs) (sym (laid-push first written.full piece));
+      added ∙ ap (λ xs. xs ++ (header_text (length piece) id ++ piece)) written.added
+      ∙ append_assoc old (pieces_text first written.full) (header_text (length piece) id ++ piece)
+      ∙ ap (λ i. old ++ (pieces_text first written.full ++ (header_text (length piece) i ++ piece))) written.id_is
+      ∙ ap (λ xs. old ++ xs) (sym (pieces_text-push first written.full piece));
 }
 
 -- the last piece
 pub pieces-end : (first : ℕ) (payload : List ℕ) (id : ℕ) (rest old now new : List ℕ) → WritesPieces first payload id rest old now →
-    length rest < full_size → new ≡ now ++ (header (length rest) id ++ rest) → WritesPacket first payload (id_after id) old new
+    length rest < full_size → new ≡ now ++ (header_text (length rest) id ++ rest) → WritesPacket first payload (id_after id) old new
 pieces-end first payload id rest old now new written less added = record {
-  text = laid first (written.full ++ rest ∷ []);
+  text = pieces_text first (written.full ++ rest ∷ []);
   last = id;
   added =
-      added ∙ ap (λ xs. xs ++ (header (length rest) id ++ rest)) written.added
-      ∙ append_assoc old (laid first written.full) (header (length rest) id ++ rest)
-      ∙ ap (λ i. old ++ (laid first written.full ++ (header (length rest) i ++ rest))) written.id_is
-      ∙ ap (λ xs. old ++ xs) (sym (laid-push first written.full rest));
+      added ∙ ap (λ xs. xs ++ (header_text (length rest) id ++ rest)) written.added
+      ∙ append_assoc old (pieces_text first written.full) (header_text (length rest) id ++ rest)
+      ∙ ap (λ i. old ++ (pieces_text first written.full ++ (header_text (length rest) i ++ rest))) written.id_is
+      ∙ ap (λ xs. old ++ xs) (sym (pieces_text-push first written.full rest));
   packet = record {
     full = written.full;
     ending = rest;

@@ -16,17 +16,21 @@ pub record Framing : Type 0 where
   pub start : ℕ
   pub held : List ℕ
 
+-- at the start of a stream
+abbrev pub new_framing : ℕ → Want → Framing
+new_framing limit want = record { limit = limit; want = want; start = 0; held = [] }
+
 -- how many bytes were taken
 abbrev pub place_of : Framing → ℕ
 place_of v = v.start + length v.held
 
 -- what the bytes taken since the last packet are
-abbrev pub found : Framing → Front
-found v = front v.limit v.want v.start v.held
+abbrev pub front_of : Framing → Front
+front_of v = front v.limit v.want v.start v.held
 
 -- they are a packet, less than one, or show a fault
 abbrev pub IsReading : Framing → Type 0
-IsReading v = IsFront v.limit v.want v.start v.held (found v)
+IsReading v = IsFront v.limit v.want v.start v.held (front_of v)
 
 -- how many bytes of an unfinished packet were taken
 abbrev pub unfinished_length : Front → ℕ → ℕ
@@ -35,11 +39,11 @@ unfinished_length (Part missing) taken = taken
 unfinished_length (Fault fault) taken = taken
 
 abbrev pub held_length : Framing → ℕ
-held_length v = unfinished_length (found v) (length v.held)
+held_length v = unfinished_length (front_of v) (length v.held)
 
 -- further bytes taken
-abbrev pub fed : Framing → List ℕ → Framing
-fed v bytes = record v { held = v.held ++ bytes }
+abbrev pub with_bytes : Framing → List ℕ → Framing
+with_bytes v bytes = record v { held = v.held ++ bytes }
 
 -- the bytes that end the present header or the present piece of payload
 abbrev pub missing_of : Front → ℕ
@@ -48,8 +52,8 @@ missing_of (Part missing) = missing
 missing_of (Fault fault) = 0
 
 -- what is taken of a piece: all up to the end of the present header or piece of payload
-abbrev pub due : Framing → List ℕ → List ℕ
-due v piece = take (missing_of (found v)) piece
+abbrev pub due_bytes : Framing → List ℕ → List ℕ
+due_bytes v piece = take (missing_of (front_of v)) piece
 
 abbrev pub IsWhole : Front → Type 0
 IsWhole (Whole first last payload behind) = Unit {0}
@@ -63,26 +67,26 @@ IsSound (Fault fault) = ⊥
 
 -- bytes of a piece were taken, and show no fault
 pub record Takes (old : Framing) (piece : List ℕ) (count : ℕ) (new : Framing) : Type 0 where
-  pub grown : new ≡ fed old (due old piece)
-  pub counted : count ≡ length (due old piece)
-  pub sound : IsSound (found new)
+  pub grown : new ≡ with_bytes old (due_bytes old piece)
+  pub counted : count ≡ length (due_bytes old piece)
+  pub sound : IsSound (front_of new)
 
 -- a piece wasn't taken: for want of memory, which changes nothing, or with the fault that the bytes show,
 -- the header that has it included
 abbrev pub Refuses : Framing → List ℕ → FrameFault → Framing → Type 0
 Refuses old piece Memory new = new ≡ old
-Refuses old piece (TooLarge at) new = (new ≡ fed old (due old piece)) × (found new ≡ Fault (TooLarge at))
-Refuses old piece (OutOfOrder at want got) new = (new ≡ fed old (due old piece)) × (found new ≡ Fault (OutOfOrder at want got))
+Refuses old piece (TooLarge at) new = (new ≡ with_bytes old (due_bytes old piece)) × (front_of new ≡ Fault (TooLarge at))
+Refuses old piece (OutOfOrder at want got) new = (new ≡ with_bytes old (due_bytes old piece)) × (front_of new ≡ Fault (OutOfOrder at want got))
 
 -- the packet is taken out of a reader: the next one is wanted with the id after its last one
 pub record TakesPacket (old : Framing) (packet : Packet) (new : Framing) : Type 0 where
-  pub whole : found old ≡ Whole packet.first packet.last packet.payload []
+  pub whole : front_of old ≡ Whole packet.first packet.last packet.payload []
   pub is_packet : IsPacket old.limit old.want packet.first packet.last packet.payload old.held
   pub at_start : packet.at ≡ old.start
   pub next_is : new ≡ record { limit = old.limit; want = Exactly (id_after packet.last); start = place_of old; held = [] }
 
 -- another id is wanted next; a whole packet that still waits decides it itself
-abbrev pub expecting : Front → Framing → Want → Framing
-expecting (Whole first last payload behind) v want = v
-expecting (Part missing) v want = record v { want = want }
-expecting (Fault fault) v want = v
+abbrev pub after_expect : Front → Framing → Want → Framing
+after_expect (Whole first last payload behind) v want = v
+after_expect (Part missing) v want = record v { want = want }
+after_expect (Fault fault) v want = v

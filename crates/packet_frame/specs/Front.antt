@@ -15,24 +15,24 @@ pub data Front : Type 0 where
   Fault : FrameFault → Front
 
 -- the front of bytes, after a full piece
-abbrev pub continued : ℕ → List ℕ → Front → Front
-continued id payload (Whole first last more behind) = Whole id last (payload ++ more) behind
-continued id payload (Part missing) = Part missing
-continued id payload (Fault fault) = Fault fault
+abbrev pub continued_front : ℕ → List ℕ → Front → Front
+continued_front id payload (Whole first last more behind) = Whole id last (payload ++ more) behind
+continued_front id payload (Part missing) = Part missing
+continued_front id payload (Fault fault) = Fault fault
 
 -- a header with a wanted id: the payload must fit, then it must be there, and a full piece is continued
-abbrev pub sized : (room size id place : ℕ) → (behind : List ℕ) → Front → Front
-sized room size id place behind more =
+abbrev pub sized_front : (room size id place : ℕ) → (behind : List ℕ) → Front → Front
+sized_front room size id place behind more =
     if nat_lt room size then Fault (TooLarge place)
     else (if nat_lt (length behind) size then Part (size - length behind)
-    else (if size == full_size then continued id (take size behind) more
+    else (if size == full_size then continued_front id (take size behind) more
     else Whole id id (take size behind) (drop size behind)))
 
 -- a header: its id must be a wanted one
-abbrev pub headed : (room : ℕ) → Want → (size id place : ℕ) → (behind : List ℕ) → Front → Front
-headed room (Exactly wanted) size id place behind more =
-    if id == wanted then sized room size id place behind more else Fault (OutOfOrder place wanted id)
-headed room Any size id place behind more = sized room size id place behind more
+abbrev pub headed_front : (room : ℕ) → Want → (size id place : ℕ) → (behind : List ℕ) → Front → Front
+headed_front room (Exactly wanted) size id place behind more =
+    if id == wanted then sized_front room size id place behind more else Fault (OutOfOrder place wanted id)
+headed_front room Any size id place behind more = sized_front room size id place behind more
 
 -- the front of bytes, of which there are at most `most`
 abbrev pub front_within : (most : ℕ) → (room : ℕ) → Want → (place : ℕ) → List ℕ → Front
@@ -42,7 +42,7 @@ front_within _ room want place (_ ∷ _ ∷ []) = Part 2
 front_within _ room want place (_ ∷ _ ∷ _ ∷ []) = Part 1
 front_within zero room want place (_ ∷ _ ∷ _ ∷ _ ∷ _) = Part 4
 front_within (suc most) room want place (a ∷ b ∷ c ∷ id ∷ behind) =
-    headed room want (little (a ∷ b ∷ c ∷ [])) id place behind
+    headed_front room want (little (a ∷ b ∷ c ∷ [])) id place behind
     (front_within most (room - little (a ∷ b ∷ c ∷ [])) (Exactly (id_after id))
     (place + 4 + little (a ∷ b ∷ c ∷ [])) (drop (little (a ∷ b ∷ c ∷ [])) behind))
 

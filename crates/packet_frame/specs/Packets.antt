@@ -22,13 +22,13 @@ abbrev pub id_at : ℕ → ℕ → ℕ
 id_at id zero = id
 id_at id (suc count) = id_at (id_after id) count
 
-abbrev pub header : ℕ → ℕ → List ℕ
-header size id = little_text 3 size ++ id ∷ []
+abbrev pub header_text : ℕ → ℕ → List ℕ
+header_text size id = little_text 3 size ++ id ∷ []
 
 -- pieces with these payloads end to end, the first with this id
-abbrev pub laid : ℕ → List (List ℕ) → List ℕ
-laid id [] = []
-laid id (payload ∷ more) = header (length payload) id ++ (payload ++ laid (id_after id) more)
+abbrev pub pieces_text : ℕ → List (List ℕ) → List ℕ
+pieces_text id [] = []
+pieces_text id (payload ∷ more) = header_text (length payload) id ++ (payload ++ pieces_text (id_after id) more)
 
 abbrev pub AllFull : List (List ℕ) → Type 0
 AllFull [] = Unit {0}
@@ -46,7 +46,7 @@ pub record IsPacket (limit : ℕ) (want : Want) (first last : ℕ) (payload byte
   pub ending : List ℕ
   pub each_full : AllFull full
   pub not_full : length ending < full_size
-  pub laid_out : bytes ≡ laid first (full ++ ending ∷ [])
+  pub laid_out : bytes ≡ pieces_text first (full ++ ending ∷ [])
   pub joined : payload ≡ concat (full ++ ending ∷ [])
   pub wanted : Wants want first
   pub ends_at : last ≡ id_at first (length full)
@@ -68,7 +68,7 @@ pub record IsBegun (limit : ℕ) (want : Want) (total : ℕ) (next : Want) (byte
   pub first : ℕ
   pub full : List (List ℕ)
   pub each_full : AllFull full
-  pub laid_out : bytes ≡ laid first full
+  pub laid_out : bytes ≡ pieces_text first full
   pub begins : Begins want first full
   pub total_is : total ≡ length (concat full)
   pub fits : total ≤ limit
@@ -92,7 +92,7 @@ pub record IsFault (limit : ℕ) (want : Want) (place : ℕ) (fault : FrameFault
   pub size : ℕ
   pub id : ℕ
   pub behind : List ℕ
-  pub laid_out : bytes ≡ before ++ (header size id ++ behind)
+  pub laid_out : bytes ≡ before ++ (header_text size id ++ behind)
   pub in_range : size < 16777216
   pub refused : IsRefused (limit - total) next (place + length before) size id fault
 
@@ -100,7 +100,7 @@ pub record IsFault (limit : ℕ) (want : Want) (place : ℕ) (fault : FrameFault
 abbrev pub IsCut : (room : ℕ) → Want → (missing : ℕ) → List ℕ → Type 0
 IsCut room want missing present =
     ((length present < 4) × (length present + missing ≡ 4))
-    ⊎ ((size id : ℕ) × (some : List ℕ) × (present ≡ header size id ++ some) × (size < 16777216) × Wants want id
+    ⊎ ((size id : ℕ) × (some : List ℕ) × (present ≡ header_text size id ++ some) × (size < 16777216) × Wants want id
     × (size ≤ room) × (length some < size) × (length some + missing ≡ size))
 
 -- The bytes are less than a packet, and show no fault. So many more bytes end the header or the piece of
@@ -128,4 +128,4 @@ pub record WritesPieces (first : ℕ) (payload : List ℕ) (id : ℕ) (rest : Li
   pub each_full : AllFull full
   pub split : payload ≡ concat full ++ rest
   pub id_is : id ≡ id_at first (length full)
-  pub added : new ≡ old ++ laid first full
+  pub added : new ≡ old ++ pieces_text first full

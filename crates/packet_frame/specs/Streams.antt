@@ -5,7 +5,7 @@ use Rattle.packet_frame.specs.declared.packets.Want.{Want}
 use Rattle.packet_frame.specs.declared.packets.Packet.{Packet}
 use Rattle.packet_frame.specs.declared.packets.FrameFault.{FrameFault}
 use Rattle.packet_frame.specs.Packets.{IsPacket, IsFault, IsUnfinished}
-use Rattle.packet_frame.specs.Framing.{Framing, due, fed, TakesPacket}
+use Rattle.packet_frame.specs.Framing.{Framing, due_bytes, with_bytes, TakesPacket}
 
 -- how a stream ends: after a packet, within the packet whose first header byte stands at a place, or at
 -- a fault
@@ -61,5 +61,5 @@ packets_of (Gives packet ∷ moves) = packet ∷ packets_of moves
 abbrev pub IsRun : (next : ℕ → Want) → Framing → List Move → Framing → Type 0
 IsRun next v [] w = w ≡ v
 IsRun next v (Feeds piece count ∷ moves) w =
-    (u : Framing) × (u ≡ fed v (due v piece)) × (count ≡ length (due v piece)) × IsRun next u moves w
+    (u : Framing) × (u ≡ with_bytes v (due_bytes v piece)) × (count ≡ length (due_bytes v piece)) × IsRun next u moves w
 IsRun next v (Gives packet ∷ moves) w = (u : Framing) × TakesPacket v packet u × IsRun next (record u { want = next packet.last }) moves w

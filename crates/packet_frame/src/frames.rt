@@ -2,7 +2,7 @@
 //!
 //! MySQL client/server protocol documentation, "MySQL Packets" and "Sending More Than 16Mb".
 
-ghost use Rattle.packet_frame.specs.Framing.{place_of, found, held_length, IsWhole, IsReading, Takes, Refuses, TakesPacket, expecting};
+ghost use Rattle.packet_frame.specs.Framing.{new_framing, place_of, front_of, held_length, IsWhole, IsReading, Takes, Refuses, TakesPacket, after_expect};
 ghost use Rattle.packet_frame.specs.Front.{Fault};
 ghost use Rattle.std.specs.Prelude.{◌≡◌, ◌⊎◌, ◌↔◌, ◌+◌, ◌^◌, ◌≤◌, [], length, IfOk, IfErr, IfSome, IfNone, IsTrue};
 
@@ -34,7 +34,7 @@ impl Frames {
     /// A reader at the start of a stream. A packet has at most `limit` bytes of payload.
     pub fn new(alloc: Global, limit: u32, want: Want) -> Frames
         requires { limit ≤ 50331645 }
-        ensures { result ≡ record { limit = limit; want = want; start = 0; held = [] } }
+        ensures { result ≡ new_framing limit want }
     {
         Frames {
             alloc,
@@ -54,17 +54,19 @@ impl Frames {
         ensures reading { IsReading self.new }
 
         // It takes nothing exactly where there is nothing to take, or a packet waits.
-        ensures nothing { IfOk result (λ count. (count ≡ 0) ↔ ((piece.now ≡ []) ⊎ IsWhole (found self.old))) }
+        ensures nothing { IfOk result (λ count.
+            (count ≡ 0) ↔ ((piece.now ≡ []) ⊎ IsWhole (front_of self.old))) }
 
         // After a fault every call answers it.
-        ensures again { (fault : FrameFault) → found self.old ≡ Fault fault → (result ≡ Err fault) × (self.new ≡ self.old) }
+        ensures again { (fault : FrameFault) → front_of self.old ≡ Fault fault →
+            (result ≡ Err fault) × (self.new ≡ self.old) }
     {
         self.progress.feed(piece)
     }
 
     /// Whether a packet waits to be taken out.
     pub fn ready(&self) -> bool
-        ensures whole { IsTrue result ↔ IsWhole (found self.now) }
+        ensures whole { IsTrue result ↔ IsWhole (front_of self.now) }
         ensures reading { IsReading self.now }
     {
         self.progress.is_ready()
@@ -73,7 +75,7 @@ impl Frames {
     /// The packet that waits, if there is one. The next one is wanted with the id after its last one.
     pub fn take(&mut self) -> Option<Packet>
         ensures some { IfSome result (λ packet. TakesPacket self.old packet self.new) }
-        ensures none { IfNone result ((self.new ≡ self.old) × (IsWhole (found self.old) → ⊥)) }
+        ensures none { IfNone result ((self.new ≡ self.old) × (IsWhole (front_of self.old) → ⊥)) }
     {
         self.progress.take(self.alloc)
     }
@@ -82,7 +84,7 @@ impl Frames {
     /// taking it out sets it anew.
     pub fn expect(&mut self, want: Want)
         requires { held_length self.old ≡ 0 }
-        ensures { self.new ≡ expecting (found self.old) self.old want }
+        ensures { self.new ≡ after_expect (front_of self.old) self.old want }
     {
         self.progress.expect(want)
     }

@@ -2,10 +2,10 @@
 //!
 //! MySQL client/server protocol documentation, "MySQL Packets" and "Sending More Than 16Mb".
 
-ghost use Rattle.packet_frame.specs.Framing.{place_of, held_length, found, expecting, IsSound, IsWhole, IsReading, Takes, Refuses, TakesPacket};
+ghost use Rattle.packet_frame.specs.Framing.{new_framing, place_of, held_length, front_of, after_expect, IsSound, IsWhole, IsReading, Takes, Refuses, TakesPacket};
 ghost use Rattle.packet_frame.specs.Front.{Fault};
-ghost use Rattle.packet_frame.specs.Packets.{full_size, laid, header as header_bytes, Wants, IsRefused};
-ghost use Rattle.packet_frame.specs.Progress.{framing, done, header_place, IsProgress, IsBetween};
+ghost use Rattle.packet_frame.specs.Packets.{full_size, pieces_text, header_text, Wants, IsRefused};
+ghost use Rattle.packet_frame.specs.Progress.{framing, done_pieces, header_place, IsProgress, IsBetween};
 ghost use Rattle.std.specs.Prelude.{◌≡◌, ℕ, ◌+◌, ◌-◌, ◌*◌, ◌^◌, ◌<◌, ◌≤◌, ◌++◌, [], length, take, IfOk, IfErr, IfSome, IfNone, IsTrue, ◌↔◌};
 
 use crate::packets::{FULL, FrameFault, Packet, Want};
@@ -63,7 +63,7 @@ fn filled(mut header: [u8; 4], seen: usize, piece: &[u8]) -> [u8; 4]
 
 /// The length and the id that a header holds.
 fn fields(header: [u8; 4]) -> (usize, u8)
-    ensures held { header ≡ header_bytes result.0 result.1 }
+    ensures held { header ≡ header_text result.0 result.1 }
     ensures in_range { result.0 < 16777216 }
 {
     let [low, middle, high, id] = header;
@@ -96,7 +96,7 @@ impl Progress {
     pub fn new(alloc: Global, limit: u32, want: Want) -> Progress
         requires { limit ≤ 50331645 }
         ensures sound { IsProgress result }
-        ensures starts { framing result ≡ record { limit = limit; want = want; start = 0; held = [] } }
+        ensures starts { framing result ≡ new_framing limit want }
     {
         Progress {
             limit,
@@ -124,10 +124,12 @@ impl Progress {
     /// The length and the id of a whole header, or the fault that it has.
     fn admit(&self, header: [u8; 4]) -> Result<(usize, u8), FrameFault>
         requires { IsProgress self.now }
-        ensures ok { IfOk result (λ found. (header ≡ header_bytes found.0 found.1) × (found.0 ≤ full_size)
+        ensures ok { IfOk result (λ found.
+            (header ≡ header_text found.0 found.1) × (found.0 ≤ full_size)
             × Wants self.now.next found.1 × (self.now.full * full_size + found.0 ≤ self.now.limit)) }
-        ensures err { IfErr result (λ fault. (size id : ℕ) × (header ≡ header_bytes size id) × (size < 16777216)
-            × IsRefused (self.now.limit - self.now.full * full_size) self.now.next (header_place self.now) size id fault) }
+        ensures err { IfErr result (λ fault. (size id : ℕ) × (header ≡ header_text size id) × (size < 16777216)
+            × IsRefused (self.now.limit - self.now.full * full_size) self.now.next (header_place self.now)
+            size id fault) }
     {
         let (size, id) = fields(header);
         let at = self.header_place();
@@ -145,13 +147,15 @@ impl Progress {
         requires stage { self.old.stage ≡ Stage.Header }
         requires sound { IsProgress self.old }
         requires in_place { header_place self.old + 4 ≤ 2 ^ 63 }
-        requires is { header ≡ header_bytes size id }
+        requires is { header ≡ header_text size id }
         requires in_range { size ≤ full_size }
         requires wanted { Wants self.old.next id }
         requires fits { self.old.full * full_size + size ≤ self.old.limit }
         ensures sound { IsProgress self.new }
-        ensures taken { framing self.new ≡ record (framing self.old) { held = laid self.old.first (done self.old) ++ header } }
-        ensures no_fault { IsSound (found (framing self.new)) }
+        ensures taken { framing self.new ≡ record (framing self.old) {
+          held = pieces_text self.old.first (done_pieces self.old) ++ header;
+        } }
+        ensures no_fault { IsSound (front_of (framing self.new)) }
     {
         let first = first_of(self.full, self.first, id);
         let stage = stage_of(size);
@@ -199,7 +203,7 @@ impl Progress {
         requires begun { IsBetween self.old size }
         ensures sound { IsProgress self.new }
         ensures same { framing self.new ≡ framing self.old }
-        ensures no_fault { IsSound (found (framing self.new)) }
+        ensures no_fault { IsSound (front_of (framing self.new)) }
     {
         if size == FULL {
             self.full += 1;
@@ -236,7 +240,8 @@ impl Progress {
         ensures sound { IsProgress self.new }
         ensures ok { IfOk result (λ count. Takes (framing self.old) piece.now count (framing self.new)) }
         ensures err { IfErr result (λ fault. Refuses (framing self.old) piece.now fault (framing self.new)) }
-        ensures again { (fault : FrameFault) → found (framing self.old) ≡ Fault fault → (result ≡ Err fault) × (framing self.new ≡ framing self.old) }
+        ensures again { (fault : FrameFault) → front_of (framing self.old) ≡ Fault fault →
+            (result ≡ Err fault) × (framing self.new ≡ framing self.old) }
     {
         match self.stage {
             Stage::Header => self.take_header(piece),
@@ -258,7 +263,7 @@ impl Progress {
     /// Whether the packet is whole.
     pub fn is_ready(&self) -> bool
         requires { IsProgress self.now }
-        ensures whole { IsTrue result ↔ IsWhole (found (framing self.now)) }
+        ensures whole { IsTrue result ↔ IsWhole (front_of (framing self.now)) }
         ensures stage { IsTrue result → self.now.stage ≡ Stage.Ready }
         ensures reading { IsReading (framing self.now) }
     {
@@ -269,7 +274,8 @@ impl Progress {
     pub fn take(&mut self, alloc: Global) -> Option<Packet>
         requires { IsProgress self.old }
         ensures sound { IsProgress self.new }
-        ensures none { IfNone result ((self.new ≡ self.old) × (IsWhole (found (framing self.old)) → ⊥)) }
+        ensures none { IfNone result
+            ((self.new ≡ self.old) × (IsWhole (front_of (framing self.old)) → ⊥)) }
         ensures some { IfSome result (λ packet. TakesPacket (framing self.old) packet (framing self.new)) }
     {
         if !self.is_ready() {
@@ -309,7 +315,8 @@ impl Progress {
         requires sound { IsProgress self.old }
         requires between { held_length (framing self.old) ≡ 0 }
         ensures sound { IsProgress self.new }
-        ensures wanted { framing self.new ≡ expecting (found (framing self.old)) (framing self.old) want }
+        ensures wanted { framing self.new
+            ≡ after_expect (front_of (framing self.old)) (framing self.old) want }
     {
         if !self.is_ready() {
             self.want = want;

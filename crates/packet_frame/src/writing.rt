@@ -2,7 +2,7 @@
 //!
 //! MySQL client/server protocol documentation, "MySQL Packets" and "Sending More Than 16Mb".
 
-ghost use Rattle.packet_frame.specs.Packets.{header, WritesPacket, WritesPieces};
+ghost use Rattle.packet_frame.specs.Packets.{header_text, WritesPacket, WritesPieces};
 ghost use Rattle.std.specs.Prelude.{◌≡◌, ◌<◌, ◌++◌, ℕ, List, length, IfOk, OnOk, OnErr};
 
 use crate::packets::FULL;
@@ -42,7 +42,7 @@ fn write_pieces(first: u8, payload: &[u8], out: &mut Out) -> Result<u8, Memory>
 /// Adds one piece, or after `Memory` a part of it.
 fn write_piece(id: u8, piece: &[u8], out: &mut Out) -> Result<(), Memory>
     requires { length piece.now < 16777216 }
-    ensures ok { OnOk result (out.new ≡ out.old ++ (header (length piece.now) id ++ piece.now)) }
+    ensures ok { OnOk result (out.new ≡ out.old ++ (header_text (length piece.now) id ++ piece.now)) }
     ensures err { OnErr result ((more : List ℕ) × (out.new ≡ out.old ++ more)) }
 {
     let [low, middle, high, _] = (piece.len() as u32).to_le_bytes();

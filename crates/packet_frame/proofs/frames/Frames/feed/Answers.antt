@@ -1,6 +1,6 @@
 use Rattle.std.proofs.Common.{◌≡◌, ◌↔◌, ◌⊎◌, [], IfOk, refl, subst}
 use Rattle.std.proofs.lemmas.Result.{IfOk-weaker}
-use Rattle.packet_frame.specs.Framing.{found, IsWhole}
+use Rattle.packet_frame.specs.Framing.{front_of, IsWhole}
 use Rattle.packet_frame.specs.Progress.{framing}
 use Rattle.packet_frame.proofs.Standing.{progress-reading}
 use Rattle.packet_frame.proofs.Steps.{takes-nothing}
@@ -13,7 +13,7 @@ pub returns-clause-nothing : goal.returns-clause-nothing
 returns-clause-nothing c =
     let p = c.self.inside.progress in
     let piece = c.args.piece.now in
-    subst (λ v. IfOk c.feed.result (λ count. (count ≡ 0) ↔ ((piece ≡ []) ⊎ IsWhole (found v)))) c.self.view_is
+    subst (λ v. IfOk c.feed.result (λ count. (count ≡ 0) ↔ ((piece ≡ []) ⊎ IsWhole (front_of v)))) c.self.view_is
     (IfOk-weaker c.feed.result _ _
-    (λ count takes. takes-nothing (framing p) (found (framing p)) refl (progress-reading p c.self.invariant) piece count (framing c.feed.new.self) takes)
+    (λ count takes. takes-nothing (framing p) (front_of (framing p)) refl (progress-reading p c.self.invariant) piece count (framing c.feed.new.self) takes)
     c.feed.ensures.ok)
