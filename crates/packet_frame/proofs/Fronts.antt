@@ -36,6 +36,9 @@ front-short limit want place (_ ∷ _ ∷ []) h = refl
 front-short limit want place (_ ∷ _ ∷ _ ∷ []) h = refl
 front-short limit want place (_ ∷ _ ∷ _ ∷ _ ∷ _) h = absurd (omega arith)
 
+pub front-nothing : (limit : ℕ) (want : Want) (place : ℕ) → front limit want place [] ≡ Part 4
+front-nothing limit want place = front-short limit want place [] (omega arith)
+
 -- four bytes
 pub front-four : (limit : ℕ) (want : Want) (place a b c id : ℕ) (behind : List ℕ) →
     front limit want place (a ∷ b ∷ c ∷ id ∷ behind)

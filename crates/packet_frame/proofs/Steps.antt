@@ -14,6 +14,7 @@ use Rattle.packet_frame.specs.Packets.{full_size, id_after, id_at, header_text, 
 use Rattle.packet_frame.specs.Front.{Front, Whole, Part, Fault, IsFront}
 use Rattle.packet_frame.specs.Framing.{Framing, place_of, front_of, unfinished_length, held_length, after_expect, with_bytes, missing_of, due_bytes, IsSound, IsWhole, Takes, Refuses, TakesPacket}
 use Rattle.packet_frame.specs.Progress.{full_pieces, present_payload, done_pieces, framing, header_place, IsAdmitted, Stands, IsProgress, IsBetween}
+use Rattle.packet_frame.proofs.Fronts.{front-nothing}
 use Rattle.packet_frame.proofs.Readings.{begins-wanted, pieces_text-push, front-fault}
 use Rattle.packet_frame.proofs.Pieces.{length-laid_pieces, length_held, length-full_pieces, full_pieces-push, full_pieces-append, id_at-after}
 use Rattle.packet_frame.proofs.Standing.{packet-ready, found-ready, found-payload, found-header, fault-refused, payload-grown, header-grown}
@@ -432,12 +433,14 @@ pub takes-packet : (p : Progress) (bytes : List ℕ) (place : ℕ) (payload : Ve
     TakesPacket (framing p) (record { first = p.first; last = p.last; at = p.start; payload = bytes }) (framing (emptied p place payload))
 takes-packet p bytes place payload h at_ready all place_is none =
     let at_end = subst (Stands p) at_ready h.stands in
+    let after = λ (n : ℕ). let v : Framing = record { limit = p.limit; want = Exactly (id_after p.last); start = n; held = [] } in v in
+    let next = emptied-is p place payload none ∙ ap after place_is in
     record {
       whole = found-ready p at_end.0 h at_end.1 at_end.2 at_end.3 ∙ ap (λ xs. Whole p.first p.last xs []) (sym all);
       is_packet = subst (λ xs. IsPacket p.limit p.want p.first p.last xs (framing p).held) (sym all) (packet-ready p at_end.0 h at_end.1 at_end.2 at_end.3);
       at_start = refl;
-      next_is = emptied-is p place payload none
-          ∙ ap (λ n. record { limit = p.limit; want = Exactly (id_after p.last); start = n; held = [] }) place_is;
+      next_is = next;
+      between = ap front_of next ∙ front-nothing p.limit (Exactly (id_after p.last)) (place_of (framing p));
     }
 
 -- a fault was found where nothing more is read for that

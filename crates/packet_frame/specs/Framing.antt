@@ -84,6 +84,7 @@ pub record TakesPacket (old : Framing) (packet : Packet) (new : Framing) : Type 
   pub is_packet : IsPacket old.limit old.want packet.first packet.last packet.payload old.held
   pub at_start : packet.at ≡ old.start
   pub next_is : new ≡ record { limit = old.limit; want = Exactly (id_after packet.last); start = place_of old; held = [] }
+  pub between : front_of new ≡ Part 4
 
 -- another id is wanted next; a whole packet that still waits decides it itself
 abbrev pub after_expect : Front → Framing → Want → Framing

@@ -3,7 +3,7 @@
 //! MySQL client/server protocol documentation, "MySQL Packets" and "Sending More Than 16Mb".
 
 ghost use Rattle.packet_frame.specs.Framing.{new_framing, place_of, front_of, held_length, IsWhole, IsReading, Takes, Refuses, TakesPacket, after_expect};
-ghost use Rattle.packet_frame.specs.Front.{Fault};
+ghost use Rattle.packet_frame.specs.Front.{Part, Fault};
 ghost use Rattle.std.specs.Prelude.{◌≡◌, ◌⊎◌, ◌↔◌, ◌+◌, ◌^◌, ◌≤◌, [], length, IfOk, IfErr, IfSome, IfNone, IsTrue};
 
 use crate::packets::{FrameFault, Packet, Want};
@@ -34,7 +34,8 @@ impl Frames {
     /// A reader at the start of a stream. A packet has at most `limit` bytes of payload.
     pub fn new(alloc: Global, limit: u32, want: Want) -> Frames
         requires { limit ≤ 50331645 }
-        ensures { result ≡ new_framing limit want }
+        ensures starts { result ≡ new_framing limit want }
+        ensures between { front_of result ≡ Part 4 }
     {
         Frames {
             alloc,
