@@ -7,3 +7,4 @@ pub mod Steps
 pub mod Written
 pub mod Streams
 pub mod Longer
+pub mod Loops
