@@ -84,3 +84,13 @@ pub record IsOneSession (input : List ℕ) (session : OneSession) : Type 0 where
   pub packet : IsResponsePacket script.packet said
   pub native : is_native_response said script.account.user ≡ true
   pub same : session ≡ record { user = script.account.user; password = script.account.password; answer = said.auth }
+
+-- this is the one response of a packet, or it has none
+abbrev pub IsOnlyResponse : List ℕ → Option Response → Type 0
+IsOnlyResponse packet None = (said : Response) → IsResponsePacket packet said → ⊥
+IsOnlyResponse packet (Some found) = IsResponsePacket packet found × ((said : Response) → IsResponsePacket packet said → said ≡ found)
+
+-- this is the one session of an input, or it is no script of one
+abbrev pub IsOnlySession : List ℕ → Option OneSession → Type 0
+IsOnlySession input None = (session : OneSession) → IsOneSession input session → ⊥
+IsOnlySession input (Some found) = IsOneSession input found × ((session : OneSession) → IsOneSession input session → session ≡ found)

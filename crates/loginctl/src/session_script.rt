@@ -1,9 +1,8 @@
 //! Scripts of one native session: an account, what its peer sends, and nothing else.
 
-ghost use Rattle.loginctl.specs.Session.{IsOneSession, IsResponsePacket, account_line, are_fixed_lines, bytes_line, is_account_password, is_account_user, is_native_response, script_of};
-ghost use Rattle.auth_packets.specs.declared.handshake.Response.{Response};
-ghost use Rattle.loginctl.specs.declared.session_script.OneSession.{OneSession};
-ghost use Rattle.std.specs.Prelude.{◌≡◌, IfOk, MatchOption};
+ghost use Rattle.loginctl.specs.Session.{IsOnlyResponse, IsOnlySession, account_line, are_fixed_lines, bytes_line, is_account_password, is_account_user, is_native_response, script_of};
+ghost use Rattle.lg_base.specs.Fields.{little_text};
+ghost use Rattle.std.specs.Prelude.{◌≡◌, ◌≤◌, [], ◌∷◌, ◌++◌, IfOk, bytes_eq};
 
 use crate::script_text::{bytes_of, lines, words};
 use auth_packets::{PacketFault, Response};
@@ -121,4 +120,75 @@ fn read_script(alloc: Global, input: &[u8]) -> Result<Option<Script>, Memory>
         return Ok(None);
     };
     Ok(Some(Script { account, packet }))
+}
+
+/// The response in a packet with the sequence id 1, if the packet is nothing else.
+fn response_of(alloc: Global, packet: &[u8]) -> Result<Option<Response>, Memory>
+    ensures { IfOk result (λ found. IsOnlyResponse packet.now found) }
+{
+    if packet.len() < 4 || packet.len() > LONGEST_PAYLOAD + 4 {
+        return Ok(None);
+    }
+    let (header, payload) = packet.split_at(4);
+    if !is_header(header, payload.len()) {
+        return Ok(None);
+    }
+    match Response::read(alloc, payload) {
+        Ok(said) => Ok(Some(said)),
+        Err(PacketFault::Malformed { at: _ }) => Ok(None),
+        Err(PacketFault::Memory) => Err(Memory),
+    }
+}
+
+/// Whether a header states this length and the sequence id 1.
+fn is_header(header: &[u8], length: usize) -> bool
+    requires { length ≤ 1048576 }
+    ensures { result ≡ bytes_eq header.now (little_text 3 length ++ 1 ∷ []) }
+{
+    let [low, middle, high, _] = (length as u32).to_le_bytes();
+    header == [low, middle, high, 1].as_slice()
+}
+
+/// Whether a response is of the native method with the flags of this form alone, for this user, with an
+/// answer.
+fn is_native(said: &Response, user: &[u8]) -> bool
+    ensures { result ≡ is_native_response said.now user.now }
+{
+    if said.flags != FLAGS || said.plugin.as_slice() != b"mysql_native_password".as_slice() {
+        return false;
+    }
+    let answer = said.auth.as_slice();
+    said.user.as_slice() == user && !answer.is_empty() && answer != [0].as_slice()
+}
+
+/// The session of an input that is a script of one native session.
+pub fn read_session(alloc: Global, input: &[u8]) -> Result<Option<OneSession>, Memory>
+    ensures { IfOk result (λ found. IsOnlySession input.now found) }
+{
+    if input.len() > LONGEST_SCRIPT {
+        return Ok(None);
+    }
+    let Some(script) = read_script(alloc, input)? else {
+        return Ok(None);
+    };
+    let Some(said) = response_of(alloc, script.packet.as_slice())? else {
+        return Ok(None);
+    };
+    if !is_native(&said, script.account.user.as_slice()) {
+        return Ok(None);
+    }
+    Ok(Some(session_from(script, said)))
+}
+
+/// The session that a script and the client's response in it make.
+fn session_from(script: Script, said: Response) -> OneSession
+    ensures { result ≡ record { user = script.account.user; password = script.account.password; answer = said.auth } }
+{
+    let Script { account, packet: _ } = script;
+    let Account { user, password } = account;
+    OneSession {
+        user,
+        password,
+        answer: said.auth,
+    }
 }

@@ -1,0 +1,59 @@
+-- What is due for the bytes that were read is due for all that the source told.
+use Rattle.std.proofs.Common.{◌≡◌, refl, ap, sym, ◌∙◌, ℕ, ◌+◌, ◌<◌, ◌≤◌, List, [], ◌++◌, length, Option, Some, None, Result, Ok, Err, IfSome, subst, arith, append-nil, length-append, ◌⊎◌, inl, inr, ⊎_elim, nat_lt, ltb-true, ltb-false, Bool, true, false}
+use Rattle.loginctl.specs.Input.{Held}
+use Rattle.loginctl.specs.Replayed.{replay_text}
+use Rattle.loginctl.specs.Session.{IsOneSession, IsOnlySession}
+use Rattle.lg_outside.specs.Streams.{Adds}
+use Rattle.lg_outside.specs.declared.streams.Failed.{Failed}
+use Rattle.loginctl.specs.Tool.{Due, IsDue, Printed, Wrote, cut, not_built, replayed, refused, whole}
+use Rattle.loginctl.specs.declared.session_script.OneSession.{OneSession}
+
+pub due-session : (input : List ℕ) (session : OneSession) (text : List ℕ) → IsOnlySession input (Some session) → text ≡ replay_text session → IsDue input 0 text
+due-session input session text only e = subst (λ (t : List ℕ). IsDue input 0 t) (sym e) (replayed session only.0)
+
+pub due-none : (input text : List ℕ) → IsOnlySession input None → text ≡ not_built → IsDue input 3 text
+due-none input text only e = subst (λ (t : List ℕ). IsDue input 3 t) (sym e) (refused only)
+
+-- an input past the limit is a script of no session
+due-long : (held told : List ℕ) (status : ℕ) (text : List ℕ) → 16777216 < length held → 16777216 < length told → IsDue held status text → IsDue told status text
+due-long held told _ _ h t (replayed session one) = absurd (let k = one.small in omega arith)
+due-long held told _ _ h t (refused none) = refused (λ session one. let k = one.small in absurd (omega arith))
+
+within : (a b : ℕ) → (a ≤ b) ⊎ (b < a)
+within a b = cases (nat_lt b a) refl where
+  cases : (t : Bool) → nat_lt b a ≡ t → (a ≤ b) ⊎ (b < a)
+  cases true e = inr (ltb-true b a e)
+  cases false e = inl (ltb-false b a e)
+
+pub due-told : (held : List ℕ) (before after : Option (List ℕ)) (status : ℕ) (text : List ℕ) → Held before after held
+    → (length held ≤ 16777216 → IfSome after (λ left. left ≡ [])) → IsDue held status text → Due before status text
+due-told held None after status text h w due = (held, due)
+due-told held (Some told) after status text (left, now, all) w due =
+    ⊎_elim
+    (λ (short : length held ≤ 16777216).
+    let rest : IfSome (Some left) (λ more. more ≡ []) = subst (λ (o : Option (List ℕ)). IfSome o (λ more. more ≡ [])) now (w short) in
+    subst (λ (t : List ℕ). IsDue t status text) (sym (all ∙ ap (λ more. held ++ more) rest ∙ append-nil held)) due)
+    (λ (long : 16777216 < length held).
+    due-long held told status text long (let k = ap (λ bytes. length bytes) all in let m = length-append held left in omega arith) due)
+    (within (length held) 16777216)
+
+-- what a print leaves
+pub printed-whole : (before after : Option (List ℕ)) (rose : Type 0) (status : ℕ) (text : List ℕ) (answer : Result (Unit {0}) Failed) (u : Unit {0})
+    → answer ≡ Ok u → Adds before after answer text → Printed before after rose status text status
+printed-whole None after rose status text answer u e a = whole a
+printed-whole (Some before) after rose status text answer u e a = whole (subst (λ (r : Result (Unit {0}) Failed). Adds (Some before) after r text) e a)
+
+pub printed-cut : (before after : Option (List ℕ)) (rose : Type 0) (status : ℕ) (text : List ℕ) (answer : Result (Unit {0}) Failed) (f : Failed)
+    → answer ≡ Err f → rose → Adds before after answer text → Printed before after rose status text 5
+printed-cut None after rose status text answer f e r a = cut r a
+printed-cut (Some before) after rose status text answer f e r a = cut r (subst (λ (o : Result (Unit {0}) Failed). Adds (Some before) after o text) e a)
+
+-- nothing was written
+pub wrote-nothing : (written : Option (List ℕ)) → Wrote written written []
+wrote-nothing None = refl
+wrote-nothing (Some before) = ap (λ (w : List ℕ). Some w) (sym (append-nil before))
+
+-- a print of an equal text
+pub printed-as : (before after : Option (List ℕ)) (rose : Type 0) (status : ℕ) (text same : List ℕ) (result : ℕ) → text ≡ same
+    → Printed before after rose status text result → Printed before after rose status same result
+printed-as before after rose status text same result e p = subst (λ (t : List ℕ). Printed before after rose status t result) e p

@@ -1,0 +1,3 @@
+mod Sessions
+mod Greetings
+mod Dues

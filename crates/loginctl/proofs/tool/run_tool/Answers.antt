@@ -1,0 +1,28 @@
+use Rattle.std.proofs.Common.{◌≡◌, ap, sym, ◌∙◌, List, ℕ, subst}
+use Rattle.loginctl.proofs.Dues.{due-told, printed-as, wrote-nothing}
+use Rattle.loginctl.specs.Tool.{Due, IsDue, no_memory, ran, source_fault, usage}
+use Rattle.loginctl.proofs.tool.run_tool.Goals as goal
+
+pub returns-then-not-is_replay-clause-answer : goal.returns-then-not-is_replay-clause-answer
+returns-then-not-is_replay-clause-answer g c =
+    usage c.print.result (sym c.is_replay.ensures ∙ c.if-not-is_replay.true)
+    (printed-as _ _ _ 2 _ _ c.print.result c.usage.ensures c.print.ensures.printed)
+
+pub returns-in-Err-Fault-clause-answer : goal.returns-in-Err-Fault-clause-answer
+returns-in-Err-Fault-clause-answer g c =
+    source_fault (sym c.is_replay.ensures ∙ c.if-not-is_replay.false) (c.in-Err-Fault.ensures.cause c.in-Err-Fault.field-0-is) (wrote-nothing _)
+
+pub returns-in-Err-Memory-clause-answer : goal.returns-in-Err-Memory-clause-answer
+returns-in-Err-Memory-clause-answer g c =
+    no_memory (sym c.is_replay.ensures ∙ c.if-not-is_replay.false) (wrote-nothing _)
+
+pub returns-in-Ok-due_for-clause-answer : goal.returns-in-Ok-due_for-clause-answer
+returns-in-Ok-due_for-clause-answer g c =
+    ran c.print-in-Ok-due_for.result c.in-Ok-due_for.due.status c.in-Ok-due_for.due.text (sym c.is_replay.ensures ∙ c.if-not-is_replay.false)
+    (due-told c.in-Ok.text.items _ _ c.in-Ok-due_for.due.status c.in-Ok-due_for.due.text c.in-Ok.ensures.held c.in-Ok.ensures.whole
+    (subst (λ (input : List ℕ). IsDue input c.in-Ok-due_for.due.status c.in-Ok-due_for.due.text) c.as_slice.ensures.value c.in-Ok-due_for.ensures))
+    (printed-as _ _ _ c.in-Ok-due_for.due.status _ _ c.print-in-Ok-due_for.result c.as_slice-in-Ok-due_for.ensures c.print-in-Ok-due_for.ensures.printed)
+
+pub returns-clause-answer : goal.returns-clause-answer
+returns-clause-answer g c =
+    no_memory (sym c.is_replay.ensures ∙ c.if-not-is_replay.false) (wrote-nothing _)

@@ -1,0 +1,103 @@
+//! The command line of `loginctl`: what each form of its words does, and the status that it ends with.
+
+ghost use Rattle.lg_outside.specs.Faults.{Rose};
+ghost use Rattle.loginctl.specs.Tool.{Answers, IsDue, Printed, is_replay_words, not_built, usage_text};
+ghost use Rattle.std.specs.Prelude.{◌≡◌, ◌≤◌, IfOk, map, string_bytes};
+
+use crate::input::{ReadEnd, read_all};
+use crate::replay::replayed;
+use crate::session_script::{LONGEST_SCRIPT, read_session};
+use lg_base::{Memory, Out};
+use lg_outside::{Sink, Source};
+use std::alloc::Global;
+
+/// Whether the words are the one word `replay`.
+fn is_replay(words: &[String]) -> bool
+    ensures { result ≡ is_replay_words (map string_bytes words.now) }
+{
+    match words {
+        [word] => word.as_bytes() == b"replay".as_slice(),
+        _ => false,
+    }
+}
+
+/// The text for words of no form.
+#[tactic(auto, unfolding(crate::specs::Tool::usage_text))]
+fn usage() -> &'static [u8]
+    ensures { result.now ≡ usage_text }
+{
+    b"usage: loginctl replay [--generate N] | login --socket PATH --user NAME [--password WORD] [--factor2 WORD] [--factor3 WORD] [--clear] [--expired] | frames\n"
+}
+
+/// What is due for an input: a status, and a text to print.
+#[derive(Drop)]
+struct Outcome {
+    status: u8,
+    text: Out,
+}
+
+/// What is due for an input.
+fn due_for(alloc: Global, input: &[u8]) -> Result<Outcome, Memory>
+    ensures { IfOk result (λ due. IsDue input.now due.status due.text) }
+{
+    match read_session(alloc, input)? {
+        Some(session) => Ok(Outcome {
+            status: 0,
+            text: replayed(alloc, &session)?,
+        }),
+        None => Ok(Outcome {
+            status: 3,
+            text: not_built_line(alloc)?,
+        }),
+    }
+}
+
+#[tactic(auto, unfolding(crate::specs::Tool::not_built))]
+fn not_built_line(alloc: Global) -> Result<Out, Memory>
+    ensures { IfOk result (λ text. text ≡ not_built) }
+{
+    let mut text = Out::new(alloc);
+    text.bytes(b"not built\n")?;
+    Ok(text)
+}
+
+/// Prints a text, and answers the status that is due, or 5 where the sink fails.
+fn print<W: Sink>(out: &mut W, text: &[u8], status: u8) -> u8
+    ensures printed { Printed (W.written out.old) (W.written out.new) (Rose (W.fault_count out.old) (W.fault_count out.new)) status text.now result }
+    ensures rising { W.fault_count out.old ≤ W.fault_count out.new }
+{
+    match out.write_all(text) {
+        Ok(()) => status,
+        Err(_) => 5,
+    }
+}
+
+/// Does what the words say, and answers the status of the program.
+///
+/// For `replay` the input is a script of one native session, and the lines that are printed are those of the
+/// session: status 0. Any other input prints one line: 3. Words of no form print the usage: 2. A source that
+/// fails gives 4, a sink that fails 5, and want of memory 6.
+pub fn run_tool<S: Source, W: Sink>(
+    alloc: Global,
+    words: &[String],
+    input: &mut S,
+    out: &mut W,
+) -> u8
+    ensures answer { Answers (map string_bytes words.now) (S.left input.old) (W.written out.old) (W.written out.new)
+        (Rose (S.fault_count input.old) (S.fault_count input.new)) (Rose (W.fault_count out.old) (W.fault_count out.new)) result }
+    ensures input { S.fault_count input.old ≤ S.fault_count input.new }
+    ensures out { W.fault_count out.old ≤ W.fault_count out.new }
+{
+    if !is_replay(words) {
+        return print(out, usage(), 2);
+    }
+    let text = match read_all(alloc, input, LONGEST_SCRIPT) {
+        Ok(text) => text,
+        Err(ReadEnd::Fault) => return 4,
+        Err(ReadEnd::Memory) => return 6,
+    };
+    match due_for(alloc, text.as_slice()) {
+        Ok(due) => print(out, due.text.as_slice(), due.status),
+        Err(Memory) => 6,
+    }
+}
