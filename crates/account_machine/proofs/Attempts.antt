@@ -8,9 +8,12 @@ use Rattle.account_rules.specs.declared.accounts.Account.{Account}
 use Rattle.account_history.specs.declared.entries.Attempt.{Attempt}
 use Rattle.account_history.specs.declared.entries.Log.{Log}
 use Rattle.account_rules.specs.declared.accounts.Settings.{Settings}
-use Rattle.account_history.specs.Answers.{attempt_reply}
+use Rattle.account_history.specs.Answers.{attempt_reply, look_of}
+use Rattle.account_history.specs.declared.entries.Who.{Who}
+use Rattle.factor_chain.specs.declared.credentials.Look.{Look}
 use Rattle.account_machine.specs.Stands.{Stands}
-use Rattle.account_history.specs.declared.entries.Entry.TheVariants.{Attempted}
+use Rattle.account_machine.specs.Looks.{account_at, accounts_of}
+use Rattle.account_history.specs.declared.entries.Entry.TheVariants.{Attempted, Observed}
 use Rattle.account_history.specs.declared.entries.Reply.{Reply}
 use Rattle.account_history.specs.Failures.{failures, opens, tally}
 use Rattle.account_history.specs.Histories.{History, ◌▹◌, history, moment, noted}
@@ -19,8 +22,8 @@ use Rattle.account_history.specs.Records.{in_force, records}
 use Rattle.account_history.specs.Verifying.{account_verifies}
 use Rattle.account_history.proofs.Moments.{failures-upto, upto-get}
 use Rattle.account_history.proofs.OneMore.{failures-on, history-noted}
-use Rattle.account_machine.proofs.Places.{accounts_of, account_at, in_force-place, item-at, place-within}
-use Rattle.account_machine.proofs.Written.{accounts-rows, rows-on}
+use Rattle.account_machine.proofs.Places.{in_force-place, item-at, place-within}
+use Rattle.account_machine.proofs.Written.{accounts-rows, rows-observed, rows-on}
 use Rattle.account_machine.specs.declared.rows.Row.{Row}
 use Rattle.account_machine.specs.Rows.{Rise, nothing_known, place_in_force, row_of, rows_of}
 
@@ -32,7 +35,7 @@ pub record AtPlace (h : History) (user : List ℕ) (place : ℕ) (row : Row) : T
   pub is : row ≡ row_of h account
 
 -- who is in force, by the place that is found
-force-at : (h : History) (rows : List Row) (user : List ℕ) (place : Option ℕ) → rows ≡ rows_of h → place_in_force rows user ≡ place
+pub force-at : (h : History) (rows : List Row) (user : List ℕ) (place : Option ℕ) → rows ≡ rows_of h → place_in_force rows user ≡ place
     → in_force (records h) user ≡ account_at rows place
 force-at h rows user place e f =
     ap (λ accounts. in_force accounts user) (sym (accounts-rows h))
@@ -107,6 +110,19 @@ stands-attempted log t rows new settings before now log' s e r m a =
       same_rows = r;
       same_settings = s.same_settings;
       same_moment = m ∙ max-moved before t.reading (moment (history log)) s.same_moment;
+      rising = s.rising;
+      legal = (s.legal, a);
+    })
+
+-- what stands after a look
+pub stands-observed : (log : Log) (who : Who) (look : Look) (rows : List Row) (settings : Settings) (now : ℕ) (log' : Log)
+    → Stands rows settings now (history log) → log' ≡ noted log (Observed who look) → look ≡ look_of (history log) who → Stands rows settings now (history log')
+stands-observed log who look rows settings now log' s e a =
+    let P : History → Type 0 = λ h. Stands rows settings now h in
+    subst P (sym (ap history e ∙ history-noted log (Observed who look))) (record {
+      same_rows = s.same_rows ∙ rows-observed (history log) who look;
+      same_settings = s.same_settings;
+      same_moment = s.same_moment;
       rising = s.rising;
       legal = (s.legal, a);
     })

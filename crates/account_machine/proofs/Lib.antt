@@ -1,3 +1,5 @@
 mod Attempts
 mod Places
+mod Seen
+mod Starts
 mod Written

@@ -8,18 +8,11 @@ use Rattle.lg_base.specs.declared.names.Host.TheVariants as host
 use Rattle.account_rules.specs.declared.accounts.Account.{Account}
 use Rattle.account_history.specs.Records.{in_force, is_at, or_else}
 use Rattle.account_machine.specs.declared.rows.Row.{Row}
+use Rattle.account_machine.specs.Looks.{account_at, accounts_of}
 use Rattle.account_machine.specs.Rows.{place_at, place_in_force}
 
-abbrev pub accounts_of : List Row → List Account
-accounts_of rows = map (λ row. row.account) rows
-
--- the account at a place
-abbrev pub account_at : List Row → Option ℕ → Option Account
-account_at rows None = None
-account_at rows (Some place) = option_map (λ row. row.account) (slice_get rows place)
-
 -- a test of accounts finds the account of the row that the same test of rows finds
-find-row : (p : Account → Bool) (rows : List Row) → find p (accounts_of rows) ≡ option_map (λ row. row.account) (find (λ row. p row.account) rows)
+pub find-row : (p : Account → Bool) (rows : List Row) → find p (accounts_of rows) ≡ option_map (λ row. row.account) (find (λ row. p row.account) rows)
 find-row p [] = refl
 find-row p (row ∷ rows) = rw (find-row p rows) (cases (p row.account)) where
   cases : (b : Bool) → cond b (Some row.account) (option_map (λ (r : Row). r.account) (find (λ r. p r.account) rows))
@@ -28,7 +21,7 @@ find-row p (row ∷ rows) = rw (find-row p rows) (cases (p row.account)) where
   cases false = refl
 
 -- the row that a test finds is the one at its position
-find-position : (p : Row → Bool) (rows : List Row) → option_map (λ (r : Row). r.account) (find p rows) ≡ account_at rows (position p rows)
+pub find-position : (p : Row → Bool) (rows : List Row) → option_map (λ (r : Row). r.account) (find p rows) ≡ account_at rows (position p rows)
 find-position p rows = rw (find_at p rows) (cases (nat_lt (position_or_len p rows) (length rows)) refl) where
   cases : (b : Bool) → nat_lt (position_or_len p rows) (length rows) ≡ b
       → option_map (λ (r : Row). r.account) (slice_get rows (position_or_len p rows)) ≡ account_at rows (cond b (Some (position_or_len p rows)) None)

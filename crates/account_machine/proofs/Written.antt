@@ -10,7 +10,7 @@ use Rattle.account_history.proofs.OneMore.{failures-nobody, failures-observed, f
 use Rattle.login_lock.specs.Lock.{tally_of}
 use Rattle.account_history.specs.declared.entries.Who.{Who}
 use Rattle.factor_chain.specs.declared.credentials.Look.{Look}
-use Rattle.account_machine.proofs.Places.{accounts_of}
+use Rattle.account_machine.specs.Looks.{accounts_of}
 use Rattle.account_machine.specs.declared.rows.Row.{Row}
 use Rattle.account_machine.specs.Rows.{Rise, row_of, rows_of}
 

@@ -1,3 +1,5 @@
+pub mod Agreeing
+pub mod Looks
 pub mod Openings
 pub mod Rows
 pub mod Stands

@@ -32,3 +32,7 @@ place_in_force rows user = or_else (place_at user host.Localhost rows) (place_at
 -- nothing is known of any password
 abbrev pub nothing_known : ℕ → Option (List ℕ)
 nothing_known id = None
+
+-- accounts without failures
+abbrev pub new_rows : List Account → List Row
+new_rows accounts = map (λ account. record { account = account; tally = record { count = 0; locked = None } }) accounts

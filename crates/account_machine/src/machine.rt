@@ -1,15 +1,18 @@
-//! The account machine.
+//! The account machine: one object that stands for a history of looks and attempts.
 
+use crate::looks::look_at;
+use crate::notes::{AttemptNote, LookNote, StartNote};
+use crate::openings::opening_rows;
 use crate::rows::{Row, attempt_on};
-use account_history::{Attempt, Entry, Log, Opening, Reply, Who};
+use account_history::{Log, Opening, Reply, Who};
 use account_rules::Settings;
 use factor_chain::{Checked, Evidences, Look};
-use ghost_value::{Denotes, GhostValue};
+use ghost_value::GhostValue;
 use lg_base::Memory;
 use std::alloc::Global;
 use std::marker::Model;
 
-/// The accounts.
+/// The accounts with their tallies. Contracts see the history that they stand for.
 #[derive(Drop)]
 pub struct Accounts {
     rows: Vec<Row>,
@@ -30,35 +33,83 @@ impl Model for Accounts {
     ghost invariant = { λ a. Stands a.rows.items a.settings a.moment (history a.log.value) };
 }
 
-/// What an attempt adds to a log.
-#[derive(Drop)]
-struct AttemptNote<'a> {
-    log: &'a GhostValue<Log>,
-    user: &'a [u8],
-    evidences: &'a Evidences,
-    flags: u32,
-    reading: u64,
-    reply: &'a Reply,
-}
-
-impl<'a> Denotes<Log> for AttemptNote<'a> {
-    ghost use Rattle.account_history.specs.Histories.{noted};
-    ghost use Rattle.account_history.specs.declared.entries.Entry.TheVariants.{Attempted};
-
-    ghost denoted = { λ n. noted n.log.now.value (Attempted (record {
-      user = n.user.now;
-      evidences = n.evidences.now;
-      flags = n.flags;
-      reading = n.reading;
-      reply = n.reply.now;
-    })) };
-}
-
 impl Accounts {
-    ghost use Rattle.account_history.specs.Answers.{attempt_reply};
+    ghost use Rattle.account_history.specs.Answers.{attempt_reply, look_of};
     ghost use Rattle.account_history.specs.Histories.{history, noted};
-    ghost use Rattle.account_history.specs.declared.entries.Entry.TheVariants.{Attempted};
-    ghost use Rattle.std.specs.Prelude.{◌≡◌};
+    ghost use Rattle.account_history.specs.Legal.{IsLegal};
+    ghost use Rattle.account_history.specs.Stamps.{stamp};
+    ghost use Rattle.account_history.specs.declared.entries.Entry.TheVariants.{Attempted, Observed};
+    ghost use Rattle.account_history.specs.declared.entries.Who.TheVariants.{Login};
+    ghost use Rattle.account_machine.specs.Agreeing.{Agrees};
+    ghost use Rattle.account_machine.specs.Openings.{are_openings, opening_start};
+    ghost use Rattle.std.specs.Prelude.{◌≡◌, [], IfOk, IsTrue};
+
+    /// The accounts of a start: `'root'@'localhost'` with number 1, without a password and with both
+    /// privileges, and a native account at `localhost` for each of `extra`, with the next numbers. Each
+    /// credential has its account's number.
+    pub fn opening(alloc: Global, extra: &[Opening], settings: Settings) -> Result<Accounts, Memory>
+        requires { IsTrue (are_openings extra.now) }
+        ensures { IfOk result (λ made. made ≡ record { start = opening_start extra.now settings; entries = [] }) }
+    {
+        let rows = opening_rows(alloc, extra)?;
+        Ok(Accounts {
+            rows,
+            settings,
+            moment: 0,
+            log: GhostValue::of(&StartNote { extra, settings }),
+        })
+    }
+
+    /// What is seen of an account. The history has an entry of it once [`Accounts::observed`] is told.
+    pub fn observe(&self, alloc: Global, who: &Who) -> Result<Look, Memory>
+        ensures { IfOk result (λ look. look ≡ look_of (history self.now) who.now) }
+    {
+        let _log = &self.log;
+        look_at(alloc, self.rows.as_slice(), who)
+    }
+
+    /// Notes that a look was answered. It has no effect but the entry of the history.
+    pub fn observed(&mut self, who: &Who, look: &Look)
+        requires { look.now ≡ look_of (history self.old) who.now }
+        ensures { self.new ≡ noted self.old (Observed who.now look.now) }
+    {
+        self.log = GhostValue::of(&LookNote {
+            log: &self.log,
+            who,
+            look,
+        });
+    }
+
+    /// The stamp of a user: how often what the user logs in with has changed.
+    pub fn stamp(&self, user: &[u8]) -> u64
+        ensures { result ≡ stamp (history self.now) user.now }
+    {
+        let _ = user;
+        0
+    }
+
+    /// That the history is legal.
+    pub fn is_legal(&self)
+        ensures { IsLegal (history self.now) }
+    {
+        let _log = &self.log;
+    }
+
+    /// One attempt to log in, whose evidence was checked on a look at the accounts as they are.
+    pub fn attempt(&mut self, checked: &Checked, flags: u32, reading: u64) -> Reply
+        requires { Agrees (history self.old) (Login checked.now.look.user) checked.now.look }
+        ensures reply { result ≡ attempt_reply (history self.old) checked.now.look.user checked.now.evidences flags reading }
+        ensures entry { self.new ≡ noted self.old (Attempted (record {
+          user = checked.now.look.user;
+          evidences = checked.now.evidences;
+          flags = flags;
+          reading = reading;
+          reply = result;
+        })) }
+    {
+        let user = checked.look().user.as_slice();
+        self.attempt_here(user, checked.evidences(), flags, reading)
+    }
 
     /// One attempt to log in.
     pub fn attempt_here(

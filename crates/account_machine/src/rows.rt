@@ -44,7 +44,7 @@ fn is_host(host: Host, other: Host) -> bool
     }
 }
 
-fn is_account_at(account: &Account, user: &[u8], host: Host) -> bool
+pub fn is_account_at(account: &Account, user: &[u8], host: Host) -> bool
     ensures { result ≡ is_at user.now host account.now }
 {
     account.name.user.as_slice() == user && is_host(account.name.host, host)

@@ -1,0 +1,64 @@
+-- The accounts of a start, without entries.
+use Rattle.std.proofs.Common.{◌≡◌, refl, ap, sym, ◌∙◌, ℕ, ◌+◌, ◌<◌, max, List, [], ◌∷◌, ◌++◌, length, map, subst, arith, false, take, get_or, None, length-take-le}
+use Rattle.std.proofs.lemmas.List.{map-append, take_more}
+use Rattle.account_rules.specs.declared.accounts.Account.{Account}
+use Rattle.account_rules.specs.declared.accounts.Settings.{Settings}
+use Rattle.account_history.specs.declared.entries.Opening.{Opening}
+use Rattle.account_history.specs.declared.entries.Log.{Log}
+use Rattle.account_history.specs.Histories.{From, history, latest_moment}
+use Rattle.factor_chain.specs.declared.credentials.Method.TheVariants as method
+use Rattle.account_machine.specs.Openings.{native_accounts, native_stored, opening_accounts, opening_start, plain_account}
+use Rattle.account_machine.specs.Rows.{Rise, new_rows, row_of}
+use Rattle.account_machine.specs.Stands.{Stands}
+use Rattle.account_machine.specs.declared.rows.Row.{Row}
+
+-- the native accounts with one more
+pub native-more : (id : ℕ) (xs : List Opening) (x : Opening)
+    → native_accounts id (xs ++ x ∷ []) ≡ native_accounts id xs ++ plain_account (id + length xs) x.user method.Native (native_stored x.password) false ∷ []
+native-more id [] x = ap (λ (n : ℕ). plain_account n x.user method.Native (native_stored x.password) false ∷ []) (omega arith)
+native-more id (first ∷ xs) x =
+    ap (λ rest. plain_account id first.user method.Native (native_stored first.password) false ∷ rest)
+    (native-more (id + 1) xs x
+    ∙ ap (λ (n : ℕ). native_accounts (id + 1) xs ++ plain_account n x.user method.Native (native_stored x.password) false ∷ []) (omega arith))
+
+native-moment : (id : ℕ) (xs : List Opening) → latest_moment (native_accounts id xs) ≡ 0
+native-moment id [] = refl
+native-moment id (x ∷ xs) = ap (λ (n : ℕ). max 0 n) (native-moment (id + 1) xs)
+
+native-rise : (low id : ℕ) (xs : List Opening) → low < id → Rise low (native_accounts id xs)
+native-rise low id [] h = tt
+native-rise low id (x ∷ xs) h = (h, native-rise id (id + 1) xs (omega arith))
+
+rows-new : (log : Log) (accounts : List Account) → new_rows accounts ≡ map (row_of (From log.start)) accounts
+rows-new log [] = refl
+rows-new log (account ∷ accounts) = ap (λ (rows : List Row). row_of (From log.start) account ∷ rows) (rows-new log accounts)
+
+pub stands-opening : (extra : List Opening) (settings : Settings) (rows : List Row) (log : Log) → rows ≡ new_rows (opening_accounts extra)
+    → log ≡ record { start = opening_start extra settings; entries = [] } → Stands rows settings 0 (history log)
+stands-opening extra settings rows log r e =
+    let P : Log → Type 0 = λ l. Stands rows settings 0 (history l) in
+    let first : Log = record { start = opening_start extra settings; entries = [] } in
+    subst P (sym e) (record {
+      same_rows = r ∙ rows-new first (opening_accounts extra);
+      same_settings = refl;
+      same_moment = sym (ap (λ (n : ℕ). max 0 n) (native-moment 2 extra));
+      rising = (omega arith, native-rise 1 2 extra (omega arith));
+      legal = tt;
+    })
+
+-- the rows of a start with one account more
+pub rows-more : (extra : List Opening) (i : ℕ) (item : Opening) (rows new : List Row) (id : ℕ) (row : Row) → i < length extra → item ≡ get_or extra i item
+    → rows ≡ new_rows (opening_accounts (take i extra)) → id ≡ 2 + i
+    → row ≡ record { account = plain_account id item.user method.Native (native_stored item.password) false; tally = record { count = 0; locked = None } }
+    → new ≡ rows ++ row ∷ [] → new ≡ new_rows (opening_accounts (take (i + 1) extra))
+rows-more extra i item rows new id row h is r e w n =
+    let shorter : List Opening = take i extra in
+    let fresh : ℕ → List Row = λ k. record { account = plain_account k item.user method.Native (native_stored item.password) false; tally = record { count = 0; locked = None } } ∷ [] in
+    let number : id ≡ 2 + length (take i extra) = let long = length-take-le i extra (omega arith) in omega arith in
+    n
+    ∙ ap (λ (rs : List Row). rs ++ row ∷ []) r
+    ∙ ap (λ (x : Row). new_rows (opening_accounts shorter) ++ x ∷ []) w
+    ∙ ap (λ k. new_rows (opening_accounts shorter) ++ fresh k) number
+    ∙ ap (λ rest. new_rows (opening_accounts []) ++ rest) (sym (map-append _ (native_accounts 2 shorter) (plain_account (2 + length (take i extra)) item.user method.Native (native_stored item.password) false ∷ [])))
+    ∙ ap (λ accounts. new_rows (opening_accounts [] ++ accounts)) (sym (native-more 2 shorter item))
+    ∙ ap (λ (os : List Opening). new_rows (opening_accounts os)) (ap (λ (x : Opening). take i extra ++ x ∷ []) is ∙ sym (take_more extra i item h))

@@ -1,0 +1,43 @@
+-- What a look shows, by the place of its account among the rows.
+use Rattle.std.specs.Prelude.{ℕ, List, [], Bool, if◌then◌else◌, Option, Some, None, map, option_map, slice_get}
+use Rattle.std.specs.List.{position}
+use Rattle.lg_base.specs.declared.names.Name.{Name}
+use Rattle.factor_chain.specs.declared.credentials.InForce.{InForce}
+use Rattle.factor_chain.specs.declared.credentials.Look.{Look}
+use Rattle.account_history.specs.Answers.{user_of}
+use Rattle.account_history.specs.Known.{primary_of, secondary_of}
+use Rattle.account_history.specs.Records.{has_id, is_named}
+use Rattle.account_rules.specs.declared.accounts.Account.{Account}
+use Rattle.account_machine.specs.Rows.{nothing_known}
+use Rattle.account_machine.specs.declared.rows.Row.{Row}
+
+abbrev pub accounts_of : List Row → List Account
+accounts_of rows = map (λ row. row.account) rows
+
+-- the account at a place
+abbrev pub account_at : List Row → Option ℕ → Option Account
+account_at rows None = None
+account_at rows (Some place) = option_map (λ row. row.account) (slice_get rows place)
+
+-- the place of the account of a name, and of a number
+abbrev pub place_named : List Row → Name → Option ℕ
+place_named rows name = position (λ row. is_named name row.account) rows
+
+abbrev pub place_numbered : List Row → ℕ → Option ℕ
+place_numbered rows id = position (λ row. has_id id row.account) rows
+
+-- an account as a look shows it, with its past passwords or without
+abbrev pub shown_account : Bool → Account → InForce
+shown_account whole account = record {
+  account = account.id;
+  name = account.name;
+  method = account.method;
+  primary = primary_of nothing_known account;
+  secondary = secondary_of nothing_known account;
+  labels = account.labels;
+  past = if whole then account.past else [];
+}
+
+-- a look of a user at an account
+abbrev pub plain_look : List ℕ → Bool → Option Account → Look
+plain_look user whole account = record { user = user; stamp = 0; in_force = option_map (shown_account whole) account }

@@ -1,0 +1,137 @@
+//! Looks at the accounts.
+
+ghost use Rattle.account_history.specs.Answers.{look_of, user_of as user_of_account};
+ghost use Rattle.account_history.specs.Histories.{History};
+ghost use Rattle.account_machine.specs.Looks.{account_at as account_at_place, place_named, place_numbered, plain_look, shown_account};
+ghost use Rattle.account_machine.specs.Rows.{rows_of};
+ghost use Rattle.std.specs.Prelude.{◌≡◌, IfOk, option_copied, Some, None};
+
+use crate::rows::{Row, find_in_force, is_account_at, primary, secondary};
+use account_history::Who;
+use account_rules::Account;
+use factor_chain::{InForce, Look, PastRecord};
+use lg_base::{Bytes, Items, Memory, Name};
+use std::alloc::Global;
+
+/// The place of the account of exactly this name.
+fn find_named(rows: &[Row], name: &Name) -> Option<usize>
+    ensures { result ≡ place_named rows.now name.now }
+{
+    rows.iter().position(|row| is_account_at(&row.account, name.user.as_slice(), name.host))
+}
+
+/// The place of the account with this number.
+fn find_numbered(rows: &[Row], id: u64) -> Option<usize>
+    ensures { result ≡ place_numbered rows.now id }
+{
+    rows.iter().position(|row| row.account.id == id)
+}
+
+fn copy_name(alloc: Global, name: &Name) -> Result<Name, Memory>
+    ensures { IfOk result (λ made. made ≡ name.now) }
+{
+    Ok(Name {
+        user: Bytes::copy(alloc, name.user.as_slice())?,
+        host: name.host,
+    })
+}
+
+fn copy_labels(alloc: Global, labels: &Items<Bytes>) -> Result<Items<Bytes>, Memory>
+    ensures { IfOk result (λ made. made ≡ labels.now) }
+{
+    let all = labels.as_slice();
+    let mut made = Items::new(alloc);
+    for label in all {
+        made.push(Bytes::copy(alloc, label.as_slice())?)?;
+    }
+    Ok(made)
+}
+
+fn copy_past(alloc: Global, past: &Items<PastRecord>) -> Result<Items<PastRecord>, Memory>
+    ensures { IfOk result (λ made. made ≡ past.now) }
+{
+    Ok(Items::from_vec(Vec::from_slice(alloc, past.as_slice())?))
+}
+
+/// An account as a look shows it, with its past passwords or without.
+fn show(alloc: Global, account: &Account, whole: bool) -> Result<InForce, Memory>
+    ensures { IfOk result (λ made. made ≡ shown_account whole account.now) }
+{
+    let past = if whole {
+        copy_past(alloc, &account.past)?
+    } else {
+        Items::new(alloc)
+    };
+    Ok(InForce {
+        account: account.id,
+        name: copy_name(alloc, &account.name)?,
+        method: account.method,
+        primary: primary(account),
+        secondary: secondary(account),
+        labels: copy_labels(alloc, &account.labels)?,
+        past,
+    })
+}
+
+/// A look of a user at an account.
+fn make_look(
+    alloc: Global,
+    user: &[u8],
+    account: Option<&Account>,
+    whole: bool,
+) -> Result<Look, Memory>
+    ensures { IfOk result (λ made. made ≡ plain_look user.now whole (option_copied account.entry)) }
+{
+    let in_force = match account {
+        Some(account) => Some(show(alloc, account, whole)?),
+        None => None,
+    };
+    Ok(Look {
+        user: Bytes::copy(alloc, user)?,
+        stamp: 0,
+        in_force,
+    })
+}
+
+/// What is seen of whose account.
+pub fn look_at(alloc: Global, rows: &[Row], who: &Who) -> Result<Look, Memory>
+    ensures { (h : History) → rows.now ≡ rows_of h → IfOk result (λ look. look ≡ look_of h who.now) }
+{
+    match who {
+        Who::Login(user) => {
+            let found = account_at(rows, find_in_force(rows, user.as_slice()));
+            make_look(alloc, user.as_slice(), found, false)
+        }
+        Who::Account(name) => {
+            let found = account_at(rows, find_named(rows, name));
+            make_look(alloc, name.user.as_slice(), found, true)
+        }
+        Who::Own(id) => {
+            let found = account_at(rows, find_numbered(rows, *id));
+            make_look(alloc, user_of(found), found, true)
+        }
+    }
+}
+
+/// The account at a place.
+fn account_at(rows: &[Row], place: Option<usize>) -> Option<&Account>
+    ensures { option_copied result ≡ account_at_place rows.now place }
+{
+    match place {
+        Some(place) => match rows.get(place) {
+            Some(row) => Some(&row.account),
+            None => None,
+        },
+        None => None,
+    }
+}
+
+/// The user of an account, and the empty user where there is none.
+fn user_of(account: Option<&Account>) -> &[u8]
+    ensures { result.now ≡ user_of_account (option_copied account.entry) }
+{
+    match account {
+        Some(account) => account.name.user.as_slice(),
+        None => b"",
+    }
+}
