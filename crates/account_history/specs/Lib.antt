@@ -1,8 +1,11 @@
 pub mod Answers
+pub mod Examples
 pub mod Failures
 pub mod Histories
 pub mod Known
 pub mod Legal
+pub mod Makers
 pub mod Records
 pub mod Stamps
+pub mod Telling
 pub mod Verifying

@@ -62,6 +62,13 @@ pub enum Entry {
     Attempted(Attempt),
 }
 
+/// An entry with its maker: the number of the session that made it, as a list of numbers.
+#[derive(Debug, Drop)]
+pub struct MadeEntry {
+    pub maker: Items<u64>,
+    pub entry: Entry,
+}
+
 /// Where a history starts: the accounts in ascending order of their numbers, the settings, and the count of
 /// faults of the keeper of the accounts.
 #[derive(Debug, Drop)]

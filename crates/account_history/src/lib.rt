@@ -8,5 +8,6 @@
 #![tactic(auto)]
 
 pub mod entries;
+pub mod laws;
 
-pub use entries::{Attempt, Entry, Log, Opening, Reply, Start, Who};
+pub use entries::{Attempt, Entry, Log, MadeEntry, Opening, Reply, Start, Who};

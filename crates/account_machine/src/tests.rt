@@ -4,7 +4,7 @@ use account_history::{Opening, Reply, Who};
 use account_rules::Settings;
 use factor_chain::{Evidence, Evidences, check};
 use lg_base::{Bytes, Host, Memory};
-use login_lock::{LockRule, LockTime};
+use native_scramble::respond;
 use std::alloc::Global;
 use std::test::Fail;
 
@@ -53,13 +53,85 @@ fn a_password_expires_to_the_second(rt: HostRuntime) -> Result<(), Fail> {
     Ok(())
 }
 
+/// A native account's user, password and nonce.
+const USER: &[u8] = b"nat";
+
+const PASSWORD: &[u8] = b"password";
+
+const NONCE: [u8; 20] = *b"00000000000000000001";
+
+/// What the rules say of an attempt at a moment, where the password lasts one day.
+fn expected(user: u32, right: bool, flags: u32, moment: u64) -> Reply {
+    let account = u64::from(user) + 1;
+    if user == 2 || !right {
+        return Reply::Denied {
+            using_password: true,
+        };
+    }
+    if moment < 86_400 {
+        return Reply::Opened {
+            account,
+            host: Host::Localhost,
+        };
+    }
+    if flags == 0 {
+        return Reply::MustChange;
+    }
+    Reply::Sandbox {
+        account,
+        host: Host::Localhost,
+    }
+}
+
 #[test]
-fn an_attempt_on_a_look_is_the_same(rt: HostRuntime) -> Result<(), Fail> {
+fn mixed_attempts_are_answered_by_the_rules(rt: HostRuntime) -> Result<(), Fail> {
+    let alloc = rt.alloc();
+    let extra = [Opening {
+        user: Bytes::copy(alloc, USER)?,
+        password: Bytes::copy(alloc, PASSWORD)?,
+    }];
+    let mut accounts = Accounts::opening(alloc, &extra, SETTINGS)?;
+    let mut state: u32 = 7;
+    let mut moment: u64 = 0;
+    for _ in 0..300 {
+        state = state.wrapping_mul(1_103_515_245).wrapping_add(12_345) % 0x8000_0000;
+        let draw = state / 65_536;
+        let user = draw % 3;
+        let right = user == 1 && draw / 3 % 2 == 0;
+        let flags = if draw / 6 % 2 == 0 { 0 } else { 0x0040_0000 };
+        let reading = u64::from(draw / 12 % 4) * 43_200;
+        let response = respond(if right { PASSWORD } else { b"bad" }, &NONCE);
+        let evidence = Evidences::new(
+            alloc,
+            Evidence::Native {
+                nonce: NONCE,
+                response: Bytes::copy(alloc, &response)?,
+            },
+        )?;
+        let name: &[u8] = match user {
+            0 => b"root",
+            1 => USER,
+            _ => b"zz",
+        };
+        moment = moment.max(reading);
+        let given = accounts.attempt_here(name, &evidence, flags, reading);
+        assert_eq!(rt; given, expected(user, right, flags, moment));
+    }
+    Ok(())
+}
+
+#[test]
+fn an_attempt_on_a_look_is_answered_as_one_without(rt: HostRuntime) -> Result<(), Fail> {
     let alloc = rt.alloc();
     let mut accounts = Accounts::opening(alloc, &[], SETTINGS)?;
     let who = Who::Login(Bytes::copy(alloc, b"root")?);
     let look = accounts.observe(alloc, &who)?;
-    assert!(rt; look.in_force.is_some());
-    assert_eq!(rt; accounts.stamp(b"root"), 0);
+    assert_eq!(rt; look.stamp, accounts.stamp(b"root"));
+    accounts.observed(&who, &look);
+    let checked = check(look, nothing(alloc)?);
+    let given = accounts.attempt(&checked, 0, 0);
+    assert_eq!(rt; given, OPENED);
+    let numbered = accounts.observe(alloc, &Who::Own(2))?;
+    assert!(rt; numbered.in_force.is_none());
     Ok(())
 }

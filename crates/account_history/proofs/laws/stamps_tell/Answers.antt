@@ -1,0 +1,5 @@
+use Rattle.account_history.proofs.Unchanged.{stamps-tell}
+use Rattle.account_history.proofs.laws.stamps_tell.Goals as goal
+
+pub returns : goal.returns
+returns c = stamps-tell

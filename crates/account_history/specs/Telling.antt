@@ -1,0 +1,51 @@
+-- What an equal stamp tells of a user.
+use Rattle.std.specs.Prelude.{◌≡◌, ℕ, List, map, filter, Bool, Option, Some, option_map}
+use Rattle.std.specs.Str.{bytes_eq}
+use Rattle.lg_base.specs.declared.names.Name.{Name}
+use Rattle.factor_chain.specs.declared.credentials.Method.{Method}
+use Rattle.factor_chain.specs.declared.credentials.Stored.{Stored}
+use Rattle.factor_chain.specs.declared.credentials.PastRecord.{PastRecord}
+use Rattle.account_rules.specs.declared.accounts.Account.{Account}
+use Rattle.account_history.specs.declared.entries.Entry.{Entry}
+use Rattle.account_history.specs.Histories.{History, after_entries}
+use Rattle.account_history.specs.Known.{known}
+use Rattle.account_history.specs.Records.{in_force, records}
+use Rattle.account_history.specs.Stamps.{stamp}
+
+-- what a user logs in with: an account but for its options and privileges
+pub record Kept : Type 0 where
+  pub id : ℕ
+  pub name : Name
+  pub method : Method
+  pub primary : Stored
+  pub primary_id : ℕ
+  pub secondary : Option (Stored × ℕ)
+  pub labels : List (List ℕ)
+  pub past : List PastRecord
+
+abbrev pub kept : Account → Kept
+kept account = record {
+  id = account.id;
+  name = account.name;
+  method = account.method;
+  primary = account.primary;
+  primary_id = account.primary_id;
+  secondary = account.secondary;
+  labels = account.labels;
+  past = account.past;
+}
+
+abbrev pub is_of : List ℕ → Kept → Bool
+is_of user account = bytes_eq account.name.user user
+
+-- A user logs in with the same after two histories, and what was known after the first is known after the second.
+pub record SameFor (user : List ℕ) (h k : History) : Type 0 where
+  pub accounts : filter (is_of user) (map kept (records k)) ≡ filter (is_of user) (map kept (records h))
+  pub stands : option_map kept (in_force (records k) user) ≡ option_map kept (in_force (records h) user)
+  pub digests : (id : ℕ) (digest : List ℕ) → known h id ≡ Some digest → known k id ≡ Some digest
+
+-- An equal stamp after further entries tells that nothing has changed for the user.
+abbrev pub StampsTell : Type 0
+StampsTell =
+    (h : History) (entries : List Entry) (user : List ℕ) → stamp (after_entries h entries) user ≡ stamp h user
+    → SameFor user h (after_entries h entries)
