@@ -18,5 +18,4 @@ pub fn one_value()
     ensures eof_packet { SpellsOne eof_packet.Spells }
     ensures change_user { SpellsOne change_user.Spells }
     ensures command { SpellsOne command.Spells }
-{
-}
+{}

@@ -62,7 +62,11 @@ fn check_cuts(rt: &(impl Abort + AllocGlobal), kind: Kind, payload: &[u8], place
     assert_eq!(rt; places.len(), payload.len() + 1);
     for n in 0..=payload.len() {
         let (front, _) = payload.split_at(n);
-        assert_eq!(rt; place(rt.alloc(), kind, front), usize::from(places[n]), "cut at {n}");
+        assert_eq!(rt;
+            place(rt.alloc(), kind, front),
+            usize::from(places[n]),
+            "cut at {n}"
+        );
     }
 }
 
@@ -78,7 +82,11 @@ fn check_changes(
     for i in 0..payload.len() {
         let mut changed = payload.to_vec(rt.alloc())?;
         changed[i] = byte;
-        assert_eq!(rt; place(rt.alloc(), kind, changed.as_slice()), usize::from(places[i]), "{byte} at {i}");
+        assert_eq!(rt;
+            place(rt.alloc(), kind, changed.as_slice()),
+            usize::from(places[i]),
+            "{byte} at {i}"
+        );
     }
     Ok(())
 }
@@ -99,21 +107,91 @@ fn check(
 #[test]
 fn a_malformed_handshake_stops_at_its_place(rt: HostRuntime) -> Result<(), Fail> {
     use places::*;
-    check(&rt, Kind::Greeting, &GREETING_1, &GREETING_1_CUT, &GREETING_1_ZERO, &GREETING_1_FULL)?;
-    check(&rt, Kind::Greeting, &GREETING_2, &GREETING_2_CUT, &GREETING_2_ZERO, &GREETING_2_FULL)?;
-    check(&rt, Kind::Response, &RESPONSE_1, &RESPONSE_1_CUT, &RESPONSE_1_ZERO, &RESPONSE_1_FULL)?;
-    check(&rt, Kind::Response, &RESPONSE_2, &RESPONSE_2_CUT, &RESPONSE_2_ZERO, &RESPONSE_2_FULL)?;
-    check(&rt, Kind::Response, &RESPONSE_3, &RESPONSE_3_CUT, &RESPONSE_3_ZERO, &RESPONSE_3_FULL)
+    check(
+        &rt,
+        Kind::Greeting,
+        &GREETING_1,
+        &GREETING_1_CUT,
+        &GREETING_1_ZERO,
+        &GREETING_1_FULL,
+    )?;
+    check(
+        &rt,
+        Kind::Greeting,
+        &GREETING_2,
+        &GREETING_2_CUT,
+        &GREETING_2_ZERO,
+        &GREETING_2_FULL,
+    )?;
+    check(
+        &rt,
+        Kind::Response,
+        &RESPONSE_1,
+        &RESPONSE_1_CUT,
+        &RESPONSE_1_ZERO,
+        &RESPONSE_1_FULL,
+    )?;
+    check(
+        &rt,
+        Kind::Response,
+        &RESPONSE_2,
+        &RESPONSE_2_CUT,
+        &RESPONSE_2_ZERO,
+        &RESPONSE_2_FULL,
+    )?;
+    check(
+        &rt,
+        Kind::Response,
+        &RESPONSE_3,
+        &RESPONSE_3_CUT,
+        &RESPONSE_3_ZERO,
+        &RESPONSE_3_FULL,
+    )
 }
 
 #[test]
 fn a_malformed_answer_stops_at_its_place(rt: HostRuntime) -> Result<(), Fail> {
     use places::*;
-    check(&rt, Kind::Switch, &SWITCH_1, &SWITCH_1_CUT, &SWITCH_1_ZERO, &SWITCH_1_FULL)?;
-    check(&rt, Kind::Switch, &SWITCH_2, &SWITCH_2_CUT, &SWITCH_2_ZERO, &SWITCH_2_FULL)?;
-    check(&rt, Kind::More, &MORE_1, &MORE_1_CUT, &MORE_1_ZERO, &MORE_1_FULL)?;
-    check(&rt, Kind::NextFactor, &NEXTFACTOR_1, &NEXTFACTOR_1_CUT, &NEXTFACTOR_1_ZERO, &NEXTFACTOR_1_FULL)?;
-    check(&rt, Kind::NextFactor, &NEXTFACTOR_2, &NEXTFACTOR_2_CUT, &NEXTFACTOR_2_ZERO, &NEXTFACTOR_2_FULL)?;
+    check(
+        &rt,
+        Kind::Switch,
+        &SWITCH_1,
+        &SWITCH_1_CUT,
+        &SWITCH_1_ZERO,
+        &SWITCH_1_FULL,
+    )?;
+    check(
+        &rt,
+        Kind::Switch,
+        &SWITCH_2,
+        &SWITCH_2_CUT,
+        &SWITCH_2_ZERO,
+        &SWITCH_2_FULL,
+    )?;
+    check(
+        &rt,
+        Kind::More,
+        &MORE_1,
+        &MORE_1_CUT,
+        &MORE_1_ZERO,
+        &MORE_1_FULL,
+    )?;
+    check(
+        &rt,
+        Kind::NextFactor,
+        &NEXTFACTOR_1,
+        &NEXTFACTOR_1_CUT,
+        &NEXTFACTOR_1_ZERO,
+        &NEXTFACTOR_1_FULL,
+    )?;
+    check(
+        &rt,
+        Kind::NextFactor,
+        &NEXTFACTOR_2,
+        &NEXTFACTOR_2_CUT,
+        &NEXTFACTOR_2_ZERO,
+        &NEXTFACTOR_2_FULL,
+    )?;
     check(&rt, Kind::Ok, &OK_1, &OK_1_CUT, &OK_1_ZERO, &OK_1_FULL)?;
     check(&rt, Kind::Ok, &OK_2, &OK_2_CUT, &OK_2_ZERO, &OK_2_FULL)?;
     check(&rt, Kind::Err, &ERR_1, &ERR_1_CUT, &ERR_1_ZERO, &ERR_1_FULL)?;
@@ -124,13 +202,62 @@ fn a_malformed_answer_stops_at_its_place(rt: HostRuntime) -> Result<(), Fail> {
 #[test]
 fn a_malformed_command_stops_at_its_place(rt: HostRuntime) -> Result<(), Fail> {
     use places::*;
-    check(&rt, Kind::ChangeUser, &CHANGEUSER_1, &CHANGEUSER_1_CUT, &CHANGEUSER_1_ZERO, &CHANGEUSER_1_FULL)?;
-    check(&rt, Kind::Command, &COMMAND_1, &COMMAND_1_CUT, &COMMAND_1_ZERO, &COMMAND_1_FULL)?;
-    check(&rt, Kind::Command, &COMMAND_2, &COMMAND_2_CUT, &COMMAND_2_ZERO, &COMMAND_2_FULL)?;
-    check(&rt, Kind::Command, &COMMAND_3, &COMMAND_3_CUT, &COMMAND_3_ZERO, &COMMAND_3_FULL)?;
-    check(&rt, Kind::Command, &COMMAND_4, &COMMAND_4_CUT, &COMMAND_4_ZERO, &COMMAND_4_FULL)?;
-    check(&rt, Kind::Command, &COMMAND_5, &COMMAND_5_CUT, &COMMAND_5_ZERO, &COMMAND_5_FULL)?;
-    check(&rt, Kind::Command, &COMMAND_6, &COMMAND_6_CUT, &COMMAND_6_ZERO, &COMMAND_6_FULL)
+    check(
+        &rt,
+        Kind::ChangeUser,
+        &CHANGEUSER_1,
+        &CHANGEUSER_1_CUT,
+        &CHANGEUSER_1_ZERO,
+        &CHANGEUSER_1_FULL,
+    )?;
+    check(
+        &rt,
+        Kind::Command,
+        &COMMAND_1,
+        &COMMAND_1_CUT,
+        &COMMAND_1_ZERO,
+        &COMMAND_1_FULL,
+    )?;
+    check(
+        &rt,
+        Kind::Command,
+        &COMMAND_2,
+        &COMMAND_2_CUT,
+        &COMMAND_2_ZERO,
+        &COMMAND_2_FULL,
+    )?;
+    check(
+        &rt,
+        Kind::Command,
+        &COMMAND_3,
+        &COMMAND_3_CUT,
+        &COMMAND_3_ZERO,
+        &COMMAND_3_FULL,
+    )?;
+    check(
+        &rt,
+        Kind::Command,
+        &COMMAND_4,
+        &COMMAND_4_CUT,
+        &COMMAND_4_ZERO,
+        &COMMAND_4_FULL,
+    )?;
+    check(
+        &rt,
+        Kind::Command,
+        &COMMAND_5,
+        &COMMAND_5_CUT,
+        &COMMAND_5_ZERO,
+        &COMMAND_5_FULL,
+    )?;
+    check(
+        &rt,
+        Kind::Command,
+        &COMMAND_6,
+        &COMMAND_6_CUT,
+        &COMMAND_6_ZERO,
+        &COMMAND_6_FULL,
+    )
 }
 
 // ## Real clients
@@ -144,12 +271,20 @@ fn check_client(
     answer: usize,
     attributes: Option<usize>,
 ) -> Result<(), Fail> {
-    let response = Response::read(rt.alloc(), payload).ok().ok_or("the client's response")?;
-    assert_eq!(rt; (response.flags, response.max_packet, response.charset), numbers);
+    let response = Response::read(rt.alloc(), payload)
+        .ok()
+        .ok_or("the client's response")?;
+    assert_eq!(rt;
+        (response.flags, response.max_packet, response.charset),
+        numbers
+    );
     assert_eq!(rt; response.user.as_slice(), b"nat".as_slice());
     assert_eq!(rt; response.plugin.as_slice(), plugin);
     assert_eq!(rt; response.auth.as_slice().len(), answer);
-    assert_eq!(rt; response.attributes.map(|held| held.as_slice().len()), attributes);
+    assert_eq!(rt;
+        response.attributes.map(|held| held.as_slice().len()),
+        attributes
+    );
     assert!(rt; response.database.is_none());
     assert!(rt; response.rest.as_slice().is_empty());
     Ok(())
@@ -159,11 +294,39 @@ fn check_client(
 fn responses_of_real_clients_are_read(rt: HostRuntime) -> Result<(), Fail> {
     let sha2 = b"caching_sha2_password";
     let native = b"mysql_native_password";
-    check_client(&rt, &clients::MARIADB, (0x20ffa684, 1048576, 33), sha2, 32, Some(104))?;
-    check_client(&rt, &clients::PYMYSQL, (0x3aa205, 16777215, 45), sha2, 32, Some(54))?;
-    check_client(&rt, &clients::MYSQLND, (0x1aa285, 0xc0000000, 255), sha2, 32, Some(44))?;
+    check_client(
+        &rt,
+        &clients::MARIADB,
+        (0x20ffa684, 1048576, 33),
+        sha2,
+        32,
+        Some(104),
+    )?;
+    check_client(
+        &rt,
+        &clients::PYMYSQL,
+        (0x3aa205, 16777215, 45),
+        sha2,
+        32,
+        Some(54),
+    )?;
+    check_client(
+        &rt,
+        &clients::MYSQLND,
+        (0x1aa285, 0xc0000000, 255),
+        sha2,
+        32,
+        Some(44),
+    )?;
     check_client(&rt, &clients::GO_SQL, (0xaa281, 0, 45), sha2, 32, None)?;
-    check_client(&rt, &clients::CONNECTOR_J, (0xbea382, 0x40000000, 224), native, 20, Some(151))?;
+    check_client(
+        &rt,
+        &clients::CONNECTOR_J,
+        (0xbea382, 0x40000000, 224),
+        native,
+        20,
+        Some(151),
+    )?;
     assert_eq!(rt; place(rt.alloc(), Kind::Response, &clients::MYMYSQL), 2);
     assert_eq!(rt; place(rt.alloc(), Kind::Response, &clients::HAPROXY), 1);
     Ok(())
@@ -240,8 +403,14 @@ fn replies_are_written_and_read(rt: HostRuntime) -> Result<(), Fail> {
     };
     assert!(rt; eof.is_whole());
     eof.write(&mut out)?;
-    assert_eq!(rt; out.as_slice(), b"\x00\x05\x00\x02\x00\x00\x00\xff\x15\x04#HY000\xfe\x01\x00\x02\x00".as_slice());
-    assert_eq!(rt; OkPacket::read(rt.alloc(), b"\x00\xfc\x05\x00\x00\x02\x00\x00\x00"), Ok(ok));
+    assert_eq!(rt;
+        out.as_slice(),
+        b"\x00\x05\x00\x02\x00\x00\x00\xff\x15\x04#HY000\xfe\x01\x00\x02\x00".as_slice()
+    );
+    assert_eq!(rt;
+        OkPacket::read(rt.alloc(), b"\x00\xfc\x05\x00\x00\x02\x00\x00\x00"),
+        Ok(ok)
+    );
     assert_eq!(rt; ErrPacket::read(rt.alloc(), b"\xff\x15\x04"), Ok(err));
     assert_eq!(rt; place(rt.alloc(), Kind::Err, b"\xff\x15"), 2);
     assert_eq!(rt; EofPacket::read(b"\xfe\x01\x00\x02\x00"), Ok(eof));
@@ -268,10 +437,16 @@ fn the_exchange_is_written_and_read(rt: HostRuntime) -> Result<(), Fail> {
     };
     assert!(rt; factor.is_whole());
     factor.write(&mut out)?;
-    assert_eq!(rt; out.as_slice(), b"\xfemy\x00012\x00\x01\x04\x02mysql_clear_password\x00".as_slice());
+    assert_eq!(rt;
+        out.as_slice(),
+        b"\xfemy\x00012\x00\x01\x04\x02mysql_clear_password\x00".as_slice()
+    );
     assert_eq!(rt; Switch::read(rt.alloc(), b"\xfemy\x00012\x00"), Ok(switch));
     assert_eq!(rt; More::read(rt.alloc(), b"\x01\x04"), Ok(more));
-    assert_eq!(rt; NextFactor::read(rt.alloc(), b"\x02mysql_clear_password"), Ok(factor));
+    assert_eq!(rt;
+        NextFactor::read(rt.alloc(), b"\x02mysql_clear_password"),
+        Ok(factor)
+    );
     Ok(())
 }
 
@@ -286,19 +461,28 @@ fn commands_are_written_and_read(rt: HostRuntime) -> Result<(), Fail> {
     };
     assert!(rt; change.is_whole());
     change.write(&mut out)?;
-    assert_eq!(rt; ChangeUser::read(rt.alloc(), b"\x11root\x00\x00\x00"), Ok(change));
+    assert_eq!(rt;
+        ChangeUser::read(rt.alloc(), b"\x11root\x00\x00\x00"),
+        Ok(change)
+    );
     let query = Command::Query {
         text: bytes(&rt, b"select 1")?,
     };
     assert!(rt; query.is_whole());
     query.write(&mut out)?;
-    assert_eq!(rt; out.as_slice(), b"\x11root\x00\x00\x00\x03select 1".as_slice());
+    assert_eq!(rt;
+        out.as_slice(),
+        b"\x11root\x00\x00\x00\x03select 1".as_slice()
+    );
     assert_eq!(rt; Command::read(rt.alloc(), b"\x03select 1"), Ok(query));
     assert_eq!(rt; Command::read(rt.alloc(), b"\x0e"), Ok(Command::Ping));
     assert_eq!(rt; Command::read(rt.alloc(), b"\x01"), Ok(Command::Quit));
     assert_eq!(rt; Command::read(rt.alloc(), b"\x1f"), Ok(Command::Reset));
     assert_eq!(rt; Command::read(rt.alloc(), b""), Ok(Command::Nothing));
-    assert_eq!(rt; Command::read(rt.alloc(), b"\x1b\x01"), Ok(Command::Other { first: 0x1b }));
+    assert_eq!(rt;
+        Command::read(rt.alloc(), b"\x1b\x01"),
+        Ok(Command::Other { first: 0x1b })
+    );
     assert!(rt; !Command::Other { first: 0x0e }.is_whole());
     Ok(())
 }

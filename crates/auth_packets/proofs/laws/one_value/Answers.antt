@@ -21,4 +21,5 @@ returns c = record {
   err_packet = one err_packet err-lawful;
   eof_packet = one eof_packet eof-lawful;
   change_user = one change_user change-lawful;
-  command = one command command-lawful }
+  command = one command command-lawful;
+}
