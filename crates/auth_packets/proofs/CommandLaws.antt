@@ -1,5 +1,5 @@
 -- Commands meet the laws of forms.
-use Rattle.std.proofs.Common.{◌≡◌, ◌≢◌, ℕ, ◌+◌, ◌<◌, ◌==◌, List, [], ◌∷◌, ◌++◌, length, Contains, Option, Some, None, Result, refl, sym, ap, ◌∙◌, subst, append_assoc, mod-eq_of_lt, ne_eqb, arith}
+use Rattle.std.proofs.Common.{◌≡◌, ℕ, ◌<◌, ◌==◌, List, [], ◌∷◌, ◌++◌, length, Option, Some, None, Result, refl, ap, ◌∙◌, subst, append_assoc, mod-eq_of_lt, ne_eqb, arith}
 use Rattle.std.proofs.lemmas.List.Elements.{All-nil}
 use Rattle.lg_base.specs.Fields.{little_text}
 use Rattle.wire_form.specs.Payloads.{Gives, IsReadAs, start}

@@ -1,5 +1,5 @@
 -- The server's messages between the response and the end meet the laws of forms.
-use Rattle.std.proofs.Common.{◌≡◌, ℕ, ◌<◌, List, [], ◌∷◌, ◌++◌, Contains, Result, refl, ap, subst, append_assoc, arith}
+use Rattle.std.proofs.Common.{◌≡◌, ℕ, List, [], Contains, Result, refl, subst, append_assoc, arith}
 use Rattle.wire_form.specs.Payloads.{Gives, IsReadAs, start}
 use Rattle.wire_form.proofs.Laws.{IsForm}
 use Rattle.wire_form.proofs.Made.{mark-lawful}

@@ -1,7 +1,7 @@
 -- What a reader of so many bytes answers has that length.
-use Rattle.std.proofs.Common.{◌≡◌, ℕ, ◌<◌, ◌≤◌, List, length, take, Ok, Err, refl, sym, ap, ◌∙◌, subst, ⊎_elim, length-take-le, arith}
+use Rattle.std.proofs.Common.{◌≡◌, ℕ, List, length, Ok, Err, sym, ap, ◌∙◌, ⊎_elim, length-take-le}
 use Rattle.std.proofs.lemmas.Bool.{cases_lt}
-use Rattle.lg_base.specs.Reading.{Cursor, Read, bytes_at, behind, short}
+use Rattle.lg_base.specs.Reading.{Cursor, Read, bytes_at}
 use Rattle.wire_form.proofs.Numbers.{bytes_at-short, bytes_at-long}
 
 -- the length of what is found, and 0 where nothing is

@@ -1,7 +1,7 @@
 -- The greeting and the response meet the laws of forms.
-use Rattle.std.proofs.Common.{◌≡◌, ℕ, ◌<◌, ◌==◌, List, [], ◌∷◌, replicate, IsTrue, Option, Result, refl, arith}
-use Rattle.wire_form.specs.Fields.{Field, number, mark, bytes, skipped, byte, name, lenenc, follow, ◌▸◌, made, counted, chosen, optional}
-use Rattle.wire_form.specs.Forms.{Form, rest, nothing, lead, ◌▹◌, whole, last_name}
+use Rattle.std.proofs.Common.{ℕ, ◌==◌, List, [], ◌∷◌, replicate, Result, refl, arith}
+use Rattle.wire_form.specs.Fields.{byte}
+use Rattle.wire_form.specs.Forms.{nothing}
 use Rattle.wire_form.specs.Payloads.{Gives, IsReadAs, start}
 use Rattle.wire_form.proofs.Laws.{IsField, IsForm}
 use Rattle.wire_form.proofs.Joined.{follow-lawful, lead-lawful}
@@ -14,7 +14,7 @@ use Rattle.wire_form.proofs.Whole.{rest-lawful, nothing-lawful, whole-lawful, la
 use Rattle.wire_form.proofs.Payloads.{read_as}
 use Rattle.auth_packets.specs.Faults.{malformed_at}
 use Rattle.auth_packets.specs.Flags.{flags, lower_flags, upper_flags, any_byte, second_fits, third_fits}
-use Rattle.auth_packets.specs.Handshake.{opening, session, nonce, nonce_end, greeting, client, answer, database, claim, attributes, response}
+use Rattle.auth_packets.specs.Handshake.{opening, session, nonce, greeting, client, answer, database, claim, attributes, response}
 use Rattle.auth_packets.specs.declared.fault.PacketFault.{PacketFault}
 use Rattle.auth_packets.specs.declared.handshake.Greeting.{Greeting}
 use Rattle.auth_packets.specs.declared.handshake.Response.{Response}

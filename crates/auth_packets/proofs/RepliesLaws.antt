@@ -1,9 +1,8 @@
 -- OK, ERR and EOF meet the laws of forms.
-use Rattle.std.proofs.Common.{◌≡◌, ℕ, ◌<◌, List, [], ◌∷◌, codes, Option, Result, refl, arith}
+use Rattle.std.proofs.Common.{ℕ, ◌<◌, List, [], codes, Result, refl, arith}
 use Rattle.std.proofs.lemmas.List.Elements.{All-nil}
-use Rattle.wire_form.specs.Forms.{nothing, rest}
-use Rattle.wire_form.specs.Payloads.{Begins, Gives, IsReadAs, start}
-use Rattle.wire_form.proofs.Laws.{IsField, IsForm}
+use Rattle.wire_form.specs.Payloads.{Gives, IsReadAs, start}
+use Rattle.wire_form.proofs.Laws.{IsForm}
 use Rattle.wire_form.proofs.Numbers.{number-lawful, bytes-lawful}
 use Rattle.wire_form.proofs.Lenenc.{lenenc-lawful}
 use Rattle.wire_form.proofs.Made.{mark-lawful, ▸-lawful}

@@ -1,11 +1,9 @@
 -- What is written of a response is a spelling of it.
-use Rattle.std.proofs.Common.{◌≡◌, ℕ, ◌+◌, ◌*◌, ◌/◌, ◌%◌, ◌<◌, ◌^◌, Bool, true, false, List, [], ◌∷◌, ◌++◌, length, Contains, Option, Some, None, is_some, IfSome, unwrap_or, refl, sym, ap, ◌∙◌, subst, append_assoc, mod-eq_of_lt, true≢false, arith}
+use Rattle.std.proofs.Common.{◌≡◌, ℕ, ◌<◌, ◌^◌, Bool, true, false, List, [], ◌∷◌, ◌++◌, length, Contains, Option, Some, None, is_some, IfSome, unwrap_or, refl, sym, ap, ◌∙◌, subst, append_assoc, mod-eq_of_lt, true≢false, arith}
 use Rattle.std.specs.Bool.{OnFalse}
-use Rattle.lg_base.specs.Fields.{little_text, lenenc_text}
-use Rattle.wire_form.specs.Fields.{Field, number, lenenc, name, counted, chosen, optional}
-use Rattle.wire_form.proofs.Laws.{IsField, IsForm}
-use Rattle.auth_packets.specs.Flags.{flags, HasNeeded, is_set, CONNECT_WITH_DB, CONNECT_ATTRS, LENENC_CLIENT_DATA}
-use Rattle.auth_packets.specs.Handshake.{client, client_text, answer, answer_text, length_text, database, database_text, claim, attributes, attributes_text, response, response_text, response_parts, IsWholeResponse}
+use Rattle.wire_form.specs.Fields.{number, lenenc, name, counted, chosen, optional}
+use Rattle.auth_packets.specs.Flags.{flags, is_set, CONNECT_WITH_DB, CONNECT_ATTRS, LENENC_CLIENT_DATA}
+use Rattle.auth_packets.specs.Handshake.{client, client_text, answer, answer_text, length_text, database, database_text, claim, attributes, attributes_text, response, response_text, IsWholeResponse}
 use Rattle.auth_packets.proofs.HandshakeLaws.{response-lawful}
 use Rattle.auth_packets.specs.declared.handshake.Response.{Response}
 

@@ -1,13 +1,11 @@
 -- What is written of a message is a spelling of it.
 use Rattle.std.proofs.Common.{◌≡◌, ℕ, ◌+◌, ◌*◌, ◌/◌, ◌%◌, ◌<◌, ◌^◌, List, [], ◌∷◌, ◌++◌, length, take, drop, Contains, mod-eq_of_lt, length-take-le, length-drop, take-append-drop, refl, sym, ap, ◌∙◌, subst, append_assoc, arith}
 use Rattle.lg_base.specs.Fields.{little_text}
-use Rattle.wire_form.proofs.Laws.{IsField, IsForm}
-use Rattle.auth_packets.specs.Replies.{ok_packet, ok_text, ok_parts, err_packet, err_text, state_and_text, eof_packet, eof_text}
-use Rattle.auth_packets.specs.Handshake.{IsWholeGreeting, greeting, greeting_text, opening, session, nonce, nonce_end, opening_text, session_text, nonce_text, greeting_of, greeting_parts, response}
+use Rattle.auth_packets.specs.Replies.{ok_packet, ok_text, err_packet, err_text, state_and_text, eof_packet, eof_text}
+use Rattle.auth_packets.specs.Handshake.{IsWholeGreeting, greeting, greeting_text, opening, session, nonce, opening_text, session_text, nonce_text, greeting_of, greeting_parts}
 use Rattle.auth_packets.specs.Flags.{lower_flags, upper_flags, flags, HasNeeded, second_fits, third_fits}
-use Rattle.auth_packets.proofs.HandshakeLaws.{greeting-lawful, response-lawful}
+use Rattle.auth_packets.proofs.HandshakeLaws.{greeting-lawful}
 use Rattle.auth_packets.specs.declared.handshake.Greeting.{Greeting}
-use Rattle.auth_packets.specs.declared.handshake.Response.{Response}
 use Rattle.auth_packets.proofs.RepliesLaws.{ok-lawful, err-lawful, eof-lawful}
 use Rattle.auth_packets.specs.declared.replies.OkPacket.{OkPacket}
 use Rattle.auth_packets.specs.declared.replies.ErrPacket.{ErrPacket}

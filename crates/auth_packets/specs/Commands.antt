@@ -1,7 +1,7 @@
 -- What a client says in an open session: "Command Phase" of the MySQL client/server protocol
 -- documentation, its COM_QUIT, COM_QUERY, COM_PING, COM_RESET_CONNECTION and COM_CHANGE_USER.
 use Rattle.std.specs.Prelude.{◌≢◌, ℕ, ◌<◌, true, List, [], ◌∷◌, ◌++◌, length, ◌==◌, Contains, Option, Some, None}
-use Rattle.wire_form.specs.Fields.{Field, number, mark, byte, name, ◌▸◌, counted}
+use Rattle.wire_form.specs.Fields.{number, mark, byte, name, ◌▸◌, counted}
 use Rattle.wire_form.specs.Forms.{Form, rest, nothing, ◌▹◌, whole, by_first, either}
 use Rattle.auth_packets.specs.declared.commands.ChangeUser.{ChangeUser}
 use Rattle.auth_packets.specs.declared.commands.Command.{Command}

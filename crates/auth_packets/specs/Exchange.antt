@@ -1,7 +1,7 @@
 -- What a server says between the response and the end: "Protocol::AuthSwitchRequest",
 -- "Protocol::AuthMoreData" and "Protocol::AuthNextFactor" of the MySQL client/server protocol
 -- documentation.
-use Rattle.std.specs.Prelude.{ℕ, List, [], ◌∷◌, ◌++◌, Contains}
+use Rattle.std.specs.Prelude.{ℕ, List, [], ◌∷◌, ◌++◌}
 use Rattle.wire_form.specs.Fields.{mark}
 use Rattle.wire_form.specs.Forms.{Form, rest, ◌▹◌, whole, last_name}
 use Rattle.auth_packets.specs.declared.exchange.Switch.{Switch}

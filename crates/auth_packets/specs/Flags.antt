@@ -1,5 +1,5 @@
 -- Capability flags: "Capabilities Flags" of the MySQL client/server protocol documentation.
-use Rattle.std.specs.Prelude.{ℕ, ◌+◌, ◌*◌, ◌/◌, ◌%◌, Bool, true, not, List, [], ◌∷◌, ◌==◌, bit_and, IsTrue}
+use Rattle.std.specs.Prelude.{ℕ, ◌/◌, ◌%◌, Bool, true, not, [], ◌∷◌, ◌==◌, bit_and, IsTrue}
 use Rattle.lg_base.specs.Fields.{little}
 use Rattle.wire_form.specs.Fields.{Field, byte, made, ◌▸◌}
 

@@ -2,7 +2,7 @@
 -- OK_Packet, ERR_Packet and EOF_Packet.
 use Rattle.std.specs.Prelude.{ℕ, Bool, false, List, [], ◌∷◌, ◌++◌, ◌==◌, Option, Some, None, codes}
 use Rattle.lg_base.specs.Fields.{little_text, lenenc_text}
-use Rattle.wire_form.specs.Fields.{Field, number, mark, bytes, lenenc, ◌▸◌}
+use Rattle.wire_form.specs.Fields.{number, mark, bytes, lenenc, ◌▸◌}
 use Rattle.wire_form.specs.Forms.{Form, rest, nothing, ◌▹◌, whole, by_first, either}
 use Rattle.auth_packets.specs.declared.replies.OkPacket.{OkPacket}
 use Rattle.auth_packets.specs.declared.replies.ErrPacket.{ErrPacket}

@@ -1,6 +1,5 @@
 -- One thing behind another: the laws of `follow` and `lead`, which share where reading stops.
-use Rattle.std.proofs.Common.{◌≡◌, ℕ, ◌+◌, ◌<◌, ◌⊎◌, List, [], ◌∷◌, ◌++◌, length, All, Result, Ok, Err, refl, sym, ap, ◌∙◌, subst, inl, inr, ⊎_elim, append_assoc, length-append, arith, rules}
-use Rattle.std.proofs.lemmas.List.{append_cancel_left}
+use Rattle.std.proofs.Common.{◌≡◌, ℕ, ◌+◌, ◌<◌, ◌⊎◌, List, [], ◌∷◌, ◌++◌, length, Result, Ok, Err, refl, sym, ap, ◌∙◌, subst, inl, inr, ⊎_elim, append_assoc, length-append, arith}
 use Rattle.std.proofs.lemmas.List.Elements.{All-append}
 use Rattle.lg_base.specs.Reading.{Cursor}
 use Rattle.wire_form.specs.Fields.{Found, Field, and_then, map_found, follow}
@@ -38,6 +37,16 @@ same_found {A} v w c d e =
 pub not_found : {A : Type 0} (v : A) (c : Cursor) (n : ℕ) → found_as v c ≡ Err n → ⊥
 not_found v c n e = cc
 
+-- a fault, and its place
+abbrev pub failed_at : {A : Type 0} → ℕ → Found A
+failed_at n = Err n
+
+pub same_place : {A : Type 0} (m n : ℕ) → failed_at {A = A} m ≡ failed_at n → m ≡ n
+same_place m n e = cc
+
+pub no_cons : (b : ℕ) (bs : List ℕ) → [] ≡ b ∷ bs → ⊥
+no_cons b bs e = cc
+
 -- where a list is cut in two ways, the second front passes the byte, or ends before it
 apart : (u w x y : List ℕ) (b : ℕ) → u ++ b ∷ w ≡ x ++ y →
     ((m : List ℕ) × (x ≡ u ++ b ∷ m)) ⊎ ((m : List ℕ) × (u ≡ x ++ m))
@@ -68,6 +77,16 @@ module _ {A B : Type 0} (f : Field A) (is : IsField f) (G : A → B → List ℕ
       let both = same_found a a' (record { at = 0 + length t; rest = y }) (record { at = 0 + length x; rest = z }) (sym three ∙ two) in
       (both.0, ap (λ (c : Cursor). c.rest) both.1)
 
+  -- what goes on to the first one goes on to both
+  goes_on : ((a : A) → Begins (G a) []) → (front : List ℕ) → Begins f.Spells front → Begins Joined front
+  goes_on begins front p =
+      let q = begins p.0 in (
+        (p.0, q.0),
+        p.1 ++ q.1,
+        All-append (λ x. x < 256) p.1 q.1 p.2 q.2,
+        (front ++ p.1, q.1, p.3, q.3, sym (append_assoc front p.1 q.1)),
+      )
+
   -- reading stops in the first one
   stops_first : ((a : A) → Begins (G a) []) → (c : Cursor) (n : ℕ) → f.read c ≡ Err n → StopsAt Joined c n
   stops_first begins c n e =
@@ -77,7 +96,7 @@ module _ {A B : Type 0} (f : Field A) (is : IsField f) (G : A → B → List ℕ
         back = s.back;
         split = s.split;
         place = s.place;
-        begins = goes_on s.front s.begins;
+        begins = goes_on begins s.front s.begins;
         no_further = λ b bs eq v more joined.
             ⊎_elim
             (λ p. s.no_further b bs eq v.0 p.0 (subst (λ x. f.Spells v.0 x) p.1 joined.2))
@@ -86,15 +105,6 @@ module _ {A B : Type 0} (f : Field A) (is : IsField f) (G : A → B → List ℕ
             (apart s.front more joined.0 joined.1 b joined.4);
       }
     where
-      goes_on : (front : List ℕ) → Begins f.Spells front → Begins Joined front
-      goes_on front p =
-          let q = begins p.0 in (
-            (p.0, q.0),
-            p.1 ++ q.1,
-            All-append (λ x. x < 256) p.1 q.1 p.2 q.2,
-            (front ++ p.1, q.1, p.3, q.3, sym (append_assoc front p.1 q.1)),
-          )
-
       read_it : (c : Cursor) (n : ℕ) → f.read c ≡ Err n → (a : A) (x z : List ℕ) → f.Spells a x → c.rest ≡ x ++ z → ⊥
       read_it c n e a x z s split =
           let one = subst (λ (w : List ℕ). f.read (record { at = c.at; rest = w }) ≡ Ok (a, record { at = c.at + length x; rest = z })) (sym split) (is.only c.at a x z s) in
@@ -130,7 +140,7 @@ module _ {A B : Type 0} (f : Field A) (g : A → Field B) (is : IsField f) (are 
         (λ p. stops_second f is (λ a. (g a).Spells) c p.1 p.0 n p.2 (stops_behind p.0 p.1 n p.3))
         (and_then_err (f.read c) _ n e);
     written = λ v fits. (f.write v.0, (g v.0).write v.1, is.written v.0 fits.0, (are v.0).written v.1 fits.1, refl);
-    begins = begins_both is.begins;
+    begins = goes_on f is (λ a. (g a).Spells) (λ a. (are a).begins) [] is.begins;
   }
     where
       k : A → Cursor → Found (A × B)
@@ -172,11 +182,6 @@ module _ {A B : Type 0} (f : Field A) (g : A → Field B) (is : IsField f) (are 
           ∙ ap (λ (r : Found B). and_then r (λ b last. found_as (v.0, b) last)) two
           ∙ ap (λ (n : ℕ). found_as v (record { at = n; rest = rest })) size)
 
-      begins_both : Begins f.Spells [] → Begins (follow f g).Spells []
-      begins_both p =
-          let q = (are p.0).begins in
-          ((p.0, q.0), p.1 ++ q.1, All-append (λ x. x < 256) p.1 q.1 p.2 q.2, (p.1, q.1, p.3, q.3, refl))
-
 module _ {A B : Type 0} (f : Field A) (g : A → Form B) (is : IsField f) (are : (a : A) → IsForm (g a)) where
   pub lead-lawful : IsForm (lead f g)
   lead-lawful = record {
@@ -188,7 +193,7 @@ module _ {A B : Type 0} (f : Field A) (g : A → Form B) (is : IsField f) (are :
         ((are p.0).stops p.1 n (map_found_err (λ b. (p.0, b)) ((g p.0).read p.1) n p.3)))
         (and_then_err (f.read c) k n e);
     written = λ v fits. (f.write v.0, (g v.0).write v.1, is.written v.0 fits.0, (are v.0).written v.1 fits.1, refl);
-    begins = begins_both is.begins;
+    begins = goes_on f is (λ a. (g a).Spells) (λ a. (are a).begins) [] is.begins;
   }
     where
       k : A → Cursor → Result (A × B) ℕ
@@ -207,8 +212,3 @@ module _ {A B : Type 0} (f : Field A) (g : A → Form B) (is : IsField f) (are :
           subst (λ (w : List ℕ). (lead f g).read (record { at = c.at; rest = w }) ≡ Ok v) (sym e)
           (ap (λ (r : Found A). and_then r k) (is.only c.at v.0 x y s)
           ∙ ap (λ (r : Result B ℕ). map_found (λ b. (v.0, b)) r) ((are v.0).only (record { at = c.at + length x; rest = y }) v.1 t))
-
-      begins_both : Begins f.Spells [] → Begins (lead f g).Spells []
-      begins_both p =
-          let q = (are p.0).begins in
-          ((p.0, q.0), p.1 ++ q.1, All-append (λ x. x < 256) p.1 q.1 p.2 q.2, (p.1, q.1, p.3, q.3, refl))

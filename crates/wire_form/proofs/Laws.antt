@@ -1,5 +1,5 @@
 -- What ties the parts of a field and of a form together. Each kind of field and form meets these laws.
-use Rattle.std.proofs.Common.{◌≡◌, ℕ, ◌+◌, ◌<◌, List, [], ◌∷◌, ◌++◌, length, All, Ok, Err}
+use Rattle.std.proofs.Common.{◌≡◌, ℕ, ◌+◌, List, [], ◌∷◌, ◌++◌, length, Ok, Err}
 use Rattle.lg_base.specs.Reading.{Cursor}
 use Rattle.wire_form.specs.Fields.{Field}
 use Rattle.wire_form.specs.Forms.{Form}

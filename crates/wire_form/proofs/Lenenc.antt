@@ -1,49 +1,16 @@
 -- A length-encoded integer: how it is read, and its laws.
-use Rattle.std.proofs.Common.{◌≡◌, ℕ, zero, suc, ◌+◌, ◌*◌, ◌/◌, ◌%◌, ◌^◌, ◌<◌, ◌≤◌, ◌⊎◌, Bool, true, false, cond, ltb, eqb, ◌==◌, List, [], ◌∷◌, ◌++◌, length, All, Result, Ok, Err, refl, sym, ap, ◌∙◌, subst, ⊎_elim, inl, inr, add-zero, lt-ltb, le-ltb, eq-eqb, ne_eqb, arith, rules}
+use Rattle.std.proofs.Common.{◌≡◌, ℕ, suc, ◌+◌, ◌^◌, ◌<◌, ◌≤◌, ◌⊎◌, cond, eqb, List, [], ◌∷◌, ◌++◌, length, Ok, Err, refl, sym, ap, ◌∙◌, subst, inl, inr, add-zero, lt-ltb, le-ltb, ne_eqb, arith}
 use Rattle.std.proofs.lemmas.Bool.{cases_lt, cases_eq}
 use Rattle.std.proofs.lemmas.List.Elements.{All-nil, All-cons}
-use Rattle.lg_base.specs.Fields.{little, little_text, lenenc_text}
-use Rattle.lg_base.specs.Reading.{Cursor, Read, number_at, lenenc_at, lenenc_of, lenenc_from, behind, short}
-use Rattle.lg_base.specs.declared.input.ReadFault.TheVariants.{Short, BadLenenc}
-use Rattle.wire_form.specs.Fields.{Found, Field, placed, and_then, number, byte, follow, lenenc, SpellsLenenc}
+use Rattle.lg_base.specs.Fields.{little_text, lenenc_text}
+use Rattle.lg_base.specs.Reading.{Cursor, Read, number_at, lenenc_at, lenenc_of, lenenc_from}
+use Rattle.lg_base.specs.declared.input.ReadFault.TheVariants.{BadLenenc}
+use Rattle.wire_form.specs.Fields.{already, Field, placed, number, lenenc, SpellsLenenc}
 use Rattle.wire_form.specs.Payloads.{Begins}
 use Rattle.wire_form.proofs.Laws.{FoundAt, StopsAt, IsField}
-use Rattle.wire_form.proofs.Joined.{found_as, same_found, not_found}
-use Rattle.wire_form.proofs.Numbers.{number_at-short, number_at-long, number-lawful, failed_at, length-little_text, little-little_text}
-use Rattle.wire_form.proofs.OneByte.{number_at-byte, number_at-none}
-
--- no byte, for this value
-abbrev already : ℕ → Field ℕ
-already x = record {
-  Spells = λ n text. (n ≡ x) × (text ≡ []);
-  read = λ c. Ok (x, c);
-  Fits = λ n. n ≡ x;
-  write = λ n. [];
-}
-
-already-lawful : (x : ℕ) → IsField (already x)
-already-lawful x = record {
-  found = λ c next n e. found_in c next n (same_found x n c next e);
-  only = λ at n text rest s. only_in at n text rest s.0 s.1;
-  stops = λ c n e. absurd (not_found x c n e);
-  written = λ n fits. (fits, refl);
-  begins = (x, [], All-nil (λ y. y < 256), (refl, refl));
-}
-  where
-    found_in : (c next : Cursor) (n : ℕ) → (x ≡ n) × (c ≡ next) → FoundAt (already x).Spells c next n
-    found_in c next n same = record {
-      text = [];
-      spelled = (sym same.0, refl);
-      split = ap (λ (d : Cursor). d.rest) same.1;
-      place = omega (arith, ap (λ (d : Cursor). d.at) same.1);
-    }
-
-    only_in : (at n : ℕ) (text rest : List ℕ) → n ≡ x → text ≡ [] →
-        (already x).read (record { at = at; rest = text ++ rest }) ≡ found_as n (record { at = at + length text; rest = rest })
-    only_in at n text rest e none =
-        subst (λ (w : List ℕ). (already x).read (record { at = at; rest = w ++ rest }) ≡ found_as n (record { at = at + length w; rest = rest })) (sym none)
-        (subst (λ (y : ℕ). found_as x (record { at = at; rest = rest }) ≡ found_as y (record { at = at + 0; rest = rest })) (sym e)
-        (ap (λ (k : ℕ). found_as x (record { at = k; rest = rest })) (sym (add-zero at))))
+use Rattle.wire_form.proofs.Joined.{found_as, not_found, failed_at, same_place, no_cons}
+use Rattle.wire_form.proofs.Numbers.{number_at-short, number_at-long, number-lawful, little-little_text}
+use Rattle.wire_form.proofs.Made.{already-lawful}
 
 -- what a first byte begins: a field behind it, or nothing
 data Kind (first : ℕ) : Type 1 where
@@ -194,12 +161,6 @@ lenenc-lawful = record {
         lenenc.read (record { at = at; rest = text ++ rest }) ≡ found_as n (record { at = at + length text; rest = rest })
     only_in at n [] rest s = absurd s
     only_in at n (first ∷ text) rest s = read_first at first (text ++ rest) ∙ only_kind at first n text rest (kind first) s
-
-    no_cons : (b : ℕ) (bs : List ℕ) → [] ≡ b ∷ bs → ⊥
-    no_cons b bs e = cc
-
-    same_place : (m n : ℕ) → failed_at {A = ℕ} m ≡ failed_at n → m ≡ n
-    same_place m n e = cc
 
     stops_tail : (at first n : ℕ) (xs : List ℕ) (tail : Field ℕ) →
         ((n : ℕ) (text : List ℕ) → tail.Spells n text → SpellsLenenc n (first ∷ text)) →

@@ -1,12 +1,12 @@
 -- The laws of fields that are made of one other: of another value, optional, or one of two.
-use Rattle.std.proofs.Common.{◌≡◌, ℕ, ◌+◌, ◌<◌, ◌⊎◌, Bool, true, false, List, [], ◌∷◌, ◌++◌, length, All, Option, Some, None, IsSomeAnd, Result, Ok, Err, refl, sym, ap, ◌∙◌, subst, ⊎_elim, add-zero, eq-eqb, ◌==◌, arith, rules}
+use Rattle.std.proofs.Common.{◌≡◌, ℕ, ◌+◌, ◌<◌, Bool, true, false, List, [], ◌∷◌, ◌++◌, length, Option, Some, None, IsSomeAnd, Ok, refl, sym, ap, ◌∙◌, subst, ⊎_elim, add-zero, eq-eqb, ◌==◌, arith}
 use Rattle.std.proofs.lemmas.List.Elements.{All-nil}
 use Rattle.lg_base.specs.Reading.{Cursor}
-use Rattle.wire_form.specs.Fields.{Found, Field, and_then, made, chosen, optional, counted, follow, ◌▸◌, bytes, byte, mark, skipped}
+use Rattle.wire_form.specs.Fields.{Found, Field, already, and_then, made, chosen, optional, counted, follow, ◌▸◌, bytes, byte, mark, skipped}
 use Rattle.wire_form.specs.Payloads.{Begins}
 use Rattle.wire_form.proofs.Laws.{FoundAt, StopsAt, IsField}
 use Rattle.wire_form.proofs.Joined.{found_as, same_found, not_found, and_then_ok, and_then_err, follow-lawful}
-use Rattle.wire_form.proofs.Numbers.{bytes-lawful, failed_at}
+use Rattle.wire_form.proofs.Numbers.{bytes-lawful}
 use Rattle.wire_form.proofs.OneByte.{byte-lawful}
 
 -- Another spelling relation that holds where the first one does, stops at the same place.
@@ -69,6 +69,30 @@ pub chosen-lawful : {A : Type 0} (b : Bool) (f g : Field A) → IsField f → Is
 chosen-lawful true f g one two = one
 chosen-lawful false f g one two = two
 
+pub already-lawful : {A : Type 0} (x : A) → IsField (already x)
+already-lawful {A} x = record {
+  found = λ c next v e. found_in c next v (same_found x v c next e);
+  only = λ at v text rest s. only_in at v text rest s.0 s.1;
+  stops = λ c n e. absurd (not_found x c n e);
+  written = λ v fits. (fits, refl);
+  begins = (x, [], All-nil (λ y. y < 256), (refl, refl));
+}
+  where
+    found_in : (c next : Cursor) (v : A) → (x ≡ v) × (c ≡ next) → FoundAt (already x).Spells c next v
+    found_in c next v same = record {
+      text = [];
+      spelled = (sym same.0, refl);
+      split = ap (λ (d : Cursor). d.rest) same.1;
+      place = omega (arith, ap (λ (d : Cursor). d.at) same.1);
+    }
+
+    only_in : (at : ℕ) (v : A) (text rest : List ℕ) → v ≡ x → text ≡ [] →
+        (already x).read (record { at = at; rest = text ++ rest }) ≡ found_as v (record { at = at + length text; rest = rest })
+    only_in at v text rest e empty =
+        subst (λ (w : List ℕ). (already x).read (record { at = at; rest = w ++ rest }) ≡ found_as v (record { at = at + length w; rest = rest })) (sym empty)
+        (subst (λ (y : A). found_as x (record { at = at; rest = rest }) ≡ found_as y (record { at = at + 0; rest = rest })) (sym e)
+        (ap (λ (n : ℕ). found_as x (record { at = n; rest = rest })) (sym (add-zero at))))
+
 some_spelled : {A : Type 0} (S : A → List ℕ → Type 0) (text : List ℕ) (o : Option A) → IsSomeAnd o (λ a. S a text) → (a : A) × S a text
 some_spelled S text (Some a) s = (a, s)
 some_spelled S text None s = absurd s
@@ -105,28 +129,4 @@ optional-lawful {A} true f is = record {
         subst (λ (x : Option A). FoundAt (optional true f).Spells c next x) same.0
         (subst (λ (d : Cursor). FoundAt (optional true f).Spells c d (Some p.0)) same.1
         (record { text = t.text; spelled = t.spelled; split = t.split; place = t.place }))
-optional-lawful {A} false f is = record {
-  found = λ c next o e. found_in c next o (same_found (none_of_it f) o c next e);
-  only = λ at o text rest s. only_in at o text rest s.0 s.1;
-  stops = λ c n e. absurd (not_found (none_of_it f) c n e);
-  written = λ o fits. (fits, refl);
-  begins = (None, [], All-nil (λ x. x < 256), (refl, refl));
-}
-  where
-    none_of_it : Field A → Option A
-    none_of_it f = None
-
-    found_in : (c next : Cursor) (o : Option A) → (none_of_it f ≡ o) × (c ≡ next) → FoundAt (optional false f).Spells c next o
-    found_in c next o same = record {
-      text = [];
-      spelled = (sym same.0, refl);
-      split = ap (λ (d : Cursor). d.rest) same.1;
-      place = omega (arith, ap (λ (d : Cursor). d.at) same.1);
-    }
-
-    only_in : (at : ℕ) (o : Option A) (text rest : List ℕ) → o ≡ None → text ≡ [] →
-        (optional false f).read (record { at = at; rest = text ++ rest }) ≡ found_as o (record { at = at + length text; rest = rest })
-    only_in at o text rest e empty =
-        subst (λ (w : List ℕ). (optional false f).read (record { at = at; rest = w ++ rest }) ≡ found_as o (record { at = at + length w; rest = rest })) (sym empty)
-        (subst (λ (x : Option A). found_as (none_of_it f) (record { at = at; rest = rest }) ≡ found_as x (record { at = at + 0; rest = rest })) (sym e)
-        (ap (λ (n : ℕ). found_as (none_of_it f) (record { at = n; rest = rest })) (sym (add-zero at))))
+optional-lawful false f is = already-lawful None

@@ -1,14 +1,12 @@
 -- A text ended by 00: how it is read, and its laws.
-use Rattle.std.proofs.Common.{◌≡◌, ℕ, zero, suc, ◌+◌, ◌<◌, ◌≤◌, ◌⊎◌, Bool, true, false, cond, not, ltb, List, [], ◌∷◌, ◌++◌, length, get_or, take, drop, All, Contains, position, IsTrue, Option, Some, None, Result, Ok, Err, refl, sym, ap, ◌∙◌, subst, ⊎_elim, inl, inr, eqb, append_assoc, append-nil, take_at, drop_at, length-append, take-append-drop, lt-ltb, le-ltb, ne_eqb, drop-drop, arith, rules}
-use Rattle.std.specs.List.{position_or_len, prefix_len}
-use Rattle.std.proofs.lemmas.Bool.{cases_lt, cases_eq}
+use Rattle.std.proofs.Common.{◌≡◌, ℕ, zero, suc, ◌+◌, ◌<◌, Bool, true, cond, not, ltb, List, [], ◌∷◌, ◌++◌, length, get_or, drop, Contains, Some, None, Ok, Err, refl, sym, ap, ◌∙◌, subst, ⊎_elim, eqb, append_assoc, append-nil, take_at, drop_at, length-append, lt-ltb, le-ltb, ne_eqb, drop-drop, arith}
+use Rattle.std.specs.List.{position_or_len}
+use Rattle.std.proofs.lemmas.Bool.{cases_eq}
 use Rattle.std.proofs.lemmas.List.Elements.{All-nil, All-cons}
 use Rattle.lg_base.specs.Reading.{Cursor, Read, text_at, text_of, behind, short}
-use Rattle.wire_form.specs.Fields.{Found, Field, placed, and_then, name}
-use Rattle.wire_form.specs.Payloads.{Begins}
+use Rattle.wire_form.specs.Fields.{placed, name}
 use Rattle.wire_form.proofs.Laws.{FoundAt, StopsAt, IsField}
-use Rattle.wire_form.proofs.Joined.{found_as, same_found, not_found}
-use Rattle.wire_form.proofs.Numbers.{failed_at}
+use Rattle.wire_form.proofs.Joined.{found_as, same_found, not_found, failed_at, same_place, no_cons}
 
 -- ## Lists without 00
 
@@ -120,12 +118,6 @@ name-lawful = record {
     only_in at v text rest s =
         read_found at (text ++ rest) v rest (none_of v s.0) (ap (λ (w : List ℕ). w ++ rest) s.1 ∙ append_assoc v (0 ∷ []) rest)
         ∙ ap (λ (n : ℕ). found_as v (record { at = at + n; rest = rest })) (sym (ap length s.1 ∙ length-append v (0 ∷ [])))
-
-    no_cons : (b : ℕ) (bs : List ℕ) → [] ≡ b ∷ bs → ⊥
-    no_cons b bs e = cc
-
-    same_place : (m n : ℕ) → failed_at {A = List ℕ} m ≡ failed_at n → m ≡ n
-    same_place m n e = cc
 
     stops_in : (at : ℕ) (rest : List ℕ) (n : ℕ) → name.read (record { at = at; rest = rest }) ≡ failed_at n → FirstZero rest →
         StopsAt name.Spells (record { at = at; rest = rest }) n

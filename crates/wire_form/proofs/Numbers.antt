@@ -1,15 +1,14 @@
 -- Numbers of so many bytes, and so many bytes: how they are read, and their laws.
-use Rattle.std.proofs.Common.{◌≡◌, ℕ, zero, suc, ◌+◌, ◌-◌, ◌*◌, ◌/◌, ◌%◌, ◌^◌, ◌<◌, ◌≤◌, ◌⊎◌, Bool, true, false, cond, ltb, List, [], ◌∷◌, ◌++◌, length, take, drop, replicate, All, IsTrue, Result, Ok, Err, refl, sym, ap, ◌∙◌, subst, ⊎_elim, length-append, append-nil, take-append-drop, take_at, drop_at, length-take-le, lt-ltb, le-ltb, pow-suc, arith, rules}
+use Rattle.std.proofs.Common.{◌≡◌, ℕ, zero, suc, ◌+◌, ◌-◌, ◌*◌, ◌/◌, ◌^◌, ◌<◌, ◌≤◌, cond, List, [], ◌++◌, length, take, drop, replicate, Ok, Err, refl, sym, ap, ◌∙◌, subst, ⊎_elim, length-append, append-nil, take-append-drop, take_at, drop_at, length-take-le, lt-ltb, le-ltb, pow-suc, arith}
 use Rattle.std.proofs.lemmas.Bool.{cases_lt}
 use Rattle.std.proofs.lemmas.List.{length-replicate}
-use Rattle.std.proofs.lemmas.List.Elements.{All-replicate, All-nil, All-cons}
+use Rattle.std.proofs.lemmas.List.Elements.{All-replicate}
 use Rattle.std.proofs.Math.Nat.{mod-add-div, div-lt_iff_lt-mul}
 use Rattle.lg_base.specs.Fields.{little, little_text}
-use Rattle.lg_base.specs.Reading.{Cursor, Read, bytes_at, number_at, behind, short}
-use Rattle.wire_form.specs.Fields.{Found, Field, placed, and_then, number, bytes, byte}
-use Rattle.wire_form.specs.Payloads.{Begins}
+use Rattle.lg_base.specs.Reading.{Cursor, bytes_at, number_at, behind, short}
+use Rattle.wire_form.specs.Fields.{Field, placed, number, bytes}
 use Rattle.wire_form.proofs.Laws.{FoundAt, StopsAt, IsField}
-use Rattle.wire_form.proofs.Joined.{found_as, same_found, not_found, and_then_ok, and_then_err}
+use Rattle.wire_form.proofs.Joined.{found_as, same_found, not_found, same_place, no_cons}
 
 -- ## What the readers answer
 
@@ -45,9 +44,6 @@ little-little_text (suc size) n h =
     omega (arith, part, mod-add-div n 256)
 
 -- ## Any reader that takes so many bytes
-
-abbrev pub failed_at : {A : Type 0} → ℕ → Found A
-failed_at n = Err n
 
 -- A reader that takes so many bytes and makes them into a value, of a field that is spelled by so many.
 module _ {A : Type 0} (size : ℕ) (make : List ℕ → A) (f : Field A)
@@ -91,14 +87,8 @@ module _ {A : Type 0} (size : ℕ) (make : List ℕ → A) (f : Field A)
           ∙ ap (λ (x : List ℕ). found_as a (record { at = at + size; rest = x })) (drop_at text rest size p.0)
           ∙ ap (λ (n : ℕ). found_as a (record { at = at + n; rest = rest })) (sym p.0)
 
-      same_place : (m n : ℕ) → failed_at {A = A} m ≡ failed_at n → m ≡ n
-      same_place m n e = cc
-
       whole : (c : Cursor) → length c.rest < size → length c.rest + length {A = ℕ} (replicate (size - length c.rest) 0) ≡ size
       whole c h = omega (arith, length-replicate {A = ℕ} (size - length c.rest) 0)
-
-      empty : (b : ℕ) (bs : List ℕ) → [] ≡ b ∷ bs → ⊥
-      empty b bs e = cc
 
       stops_short : (c : Cursor) (n : ℕ) → length c.rest < size → c.at + length c.rest ≡ n → StopsAt f.Spells c n
       stops_short c n h e =
@@ -114,7 +104,7 @@ module _ {A : Type 0} (size : ℕ) (make : List ℕ → A) (f : Field A)
               All-replicate (λ x. x < 256) (size - length c.rest) 0 (omega arith),
               spells filled (length-append c.rest (replicate (size - length c.rest) 0) ∙ whole c h),
             );
-            no_further = λ b bs none. absurd (empty b bs none);
+            no_further = λ b bs none. absurd (no_cons b bs none);
           }
 
 pub number-lawful : (size : ℕ) → IsField (number size)

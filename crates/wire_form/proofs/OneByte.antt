@@ -1,13 +1,12 @@
 -- One byte that passes a test: how it is read, and its laws.
-use Rattle.std.proofs.Common.{◌≡◌, ℕ, ◌+◌, ◌*◌, ◌<◌, ◌≤◌, ◌⊎◌, Bool, true, false, cond, List, [], ◌∷◌, ◌++◌, length, All, IsTrue, Result, Ok, Err, refl, sym, ap, ◌∙◌, subst, ⊎_elim, add-zero, arith, rules}
+use Rattle.std.proofs.Common.{◌≡◌, ℕ, ◌+◌, ◌<◌, Bool, true, false, cond, List, [], ◌∷◌, ◌++◌, length, IsTrue, Ok, Err, refl, sym, ap, ◌∙◌, subst, add-zero, arith}
 use Rattle.std.proofs.lemmas.List.Elements.{All-nil, All-cons}
-use Rattle.lg_base.specs.Fields.{little}
-use Rattle.lg_base.specs.Reading.{Cursor, Read, number_at, behind, short}
-use Rattle.wire_form.specs.Fields.{Found, Field, placed, and_then, byte}
+use Rattle.lg_base.specs.Reading.{Cursor, number_at}
+use Rattle.wire_form.specs.Fields.{Found, placed, and_then, byte}
 use Rattle.wire_form.specs.Payloads.{Begins}
 use Rattle.wire_form.proofs.Laws.{FoundAt, StopsAt, IsField}
-use Rattle.wire_form.proofs.Joined.{found_as, same_found, not_found}
-use Rattle.wire_form.proofs.Numbers.{number_at-short, number_at-long, failed_at}
+use Rattle.wire_form.proofs.Joined.{found_as, same_found, not_found, failed_at, no_cons}
+use Rattle.wire_form.proofs.Numbers.{number_at-short, number_at-long}
 
 pub number_at-byte : (at x : ℕ) (xs : List ℕ) → placed (number_at 1 (record { at = at; rest = x ∷ xs })) ≡ found_as x (record { at = at + 1; rest = xs })
 number_at-byte at x xs =
@@ -65,9 +64,6 @@ module _ (test : ℕ → Bool) where
       only_in at b text rest s =
           subst (λ (w : List ℕ). (byte test).read (record { at = at; rest = w ++ rest }) ≡ found_as b (record { at = at + length w; rest = rest })) (sym s.0)
           (byte-cons at b rest ∙ ap (λ (t : Bool). cond t (found_as b (record { at = at + 1; rest = rest })) (failed_at at)) s.1)
-
-      no_cons : (b : ℕ) (bs : List ℕ) → [] ≡ b ∷ bs → ⊥
-      no_cons b bs e = cc
 
       refused : (x b a : ℕ) (bs more xs : List ℕ) → test x ≡ false → x ∷ xs ≡ b ∷ bs → b ∷ more ≡ a ∷ [] → test a ≡ true → ⊥
       refused x b a bs more xs no_pass same one pass = cc

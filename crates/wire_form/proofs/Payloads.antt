@@ -1,9 +1,8 @@
 -- What the laws of a form say of a whole payload, and of a call that answers what the form's reader finds.
-use Rattle.std.proofs.Common.{◌≡◌, ℕ, suc, ◌+◌, ◌-◌, ◌<◌, ◌≤◌, ◌⊎◌, List, [], ◌∷◌, ◌++◌, length, take, drop, All, Option, Some, None, IfOk, IfErr, IfSome, Result, Ok, Err, refl, sym, ap, ◌∙◌, subst, ⊎_elim, append_assoc, length-append, take-append-drop, take_at, arith, rules}
+use Rattle.std.proofs.Common.{◌≡◌, ℕ, suc, ◌+◌, ◌-◌, ◌<◌, ◌≤◌, List, [], ◌∷◌, ◌++◌, length, take, Option, Some, None, IfSome, Result, Ok, Err, refl, sym, ap, ◌∙◌, subst, append_assoc, length-append, take_at, arith}
 use Rattle.std.proofs.Math.Seq.{take-append-add}
-use Rattle.lg_base.specs.Reading.{Cursor}
 use Rattle.wire_form.specs.Forms.{Form}
-use Rattle.wire_form.specs.Payloads.{Begins, IsFaultPlace, SpellsOne, start, Gives, Answers, IsReadAs}
+use Rattle.wire_form.specs.Payloads.{Begins, IsFaultPlace, SpellsOne, start, Gives, IsReadAs}
 use Rattle.wire_form.proofs.Laws.{StopsAt, IsForm}
 use Rattle.wire_form.proofs.Whole.{value_as, no_fault}
 

@@ -1,12 +1,12 @@
 -- The laws of the forms of whole payloads.
-use Rattle.std.proofs.Common.{◌≡◌, ℕ, ◌+◌, ◌<◌, ◌⊎◌, Bool, true, false, List, [], ◌∷◌, ◌++◌, length, All, Contains, Option, Some, None, Result, Ok, Err, refl, sym, ap, ◌∙◌, subst, ⊎_elim, inl, inr, append_assoc, length-append, add-zero, arith, rules}
+use Rattle.std.proofs.Common.{◌≡◌, ℕ, ◌+◌, ◌<◌, ◌⊎◌, Bool, true, false, List, [], ◌∷◌, ◌++◌, length, Contains, Option, Result, Ok, Err, refl, sym, ap, ◌∙◌, subst, inl, inr, append_assoc, length-append, arith}
 use Rattle.std.proofs.lemmas.List.Elements.{All-nil, All-cons}
-use Rattle.lg_base.specs.Reading.{Cursor, Read, first, text_at, short}
-use Rattle.wire_form.specs.Fields.{Found, Field, and_then, map_found}
+use Rattle.lg_base.specs.Reading.{Cursor, Read, first, text_at}
+use Rattle.wire_form.specs.Fields.{Field, map_found}
 use Rattle.wire_form.specs.Forms.{Form, ◌▹◌, rest, nothing, nothing_at, whole, last_name, name_then, by_first, either}
 use Rattle.wire_form.specs.Payloads.{Begins}
 use Rattle.wire_form.proofs.Laws.{StopsAt, IsField, IsForm}
-use Rattle.wire_form.proofs.Joined.{map_found_ok, map_found_err, lead-lawful}
+use Rattle.wire_form.proofs.Joined.{map_found_ok, map_found_err, lead-lawful, no_cons}
 use Rattle.wire_form.proofs.Made.{stops_as}
 use Rattle.wire_form.proofs.Names.{HasNoZero, empty, longer, FirstZero, at_zero, nowhere, first_zero, no_zero, none_of, text_at-found, text_at-none}
 
@@ -50,9 +50,6 @@ nothing-lawful = record {
 
     only_in : (at : ℕ) (bytes : List ℕ) (v : Unit {0}) → bytes ≡ [] → nothing_at at bytes ≡ Ok v
     only_in at bytes v e = ap (λ (x : List ℕ). nothing_at at x) e
-
-    no_cons : (b : ℕ) (bs : List ℕ) → [] ≡ b ∷ bs → ⊥
-    no_cons b bs e = cc
 
     stops_in : (at : ℕ) (bytes : List ℕ) (n : ℕ) → nothing_at at bytes ≡ Err n → StopsAt nothing.Spells (record { at = at; rest = bytes }) n
     stops_in at [] n e = absurd (no_fault tt n e)

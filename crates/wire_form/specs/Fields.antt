@@ -135,6 +135,15 @@ abbrev pub chosen : {A : Type 0} → Bool → Field A → Field A → Field A
 chosen true f g = f
 chosen false f g = g
 
+-- no byte, for this value
+abbrev pub already : {A : Type 0} → A → Field A
+already x = record {
+  Spells = λ v text. (v ≡ x) × (text ≡ []);
+  read = λ c. Ok (x, c);
+  Fits = λ v. v ≡ x;
+  write = λ v. [];
+}
+
 abbrev pub written_if_some : {A : Type 0} → Field A → Option A → List ℕ
 written_if_some f (Some a) = f.write a
 written_if_some f None = []
@@ -147,9 +156,4 @@ optional true f = record {
   Fits = λ v. IsSomeAnd v f.Fits;
   write = λ v. written_if_some f v;
 }
-optional false f = record {
-  Spells = λ v text. (v ≡ None) × (text ≡ []);
-  read = λ c. Ok (None, c);
-  Fits = λ v. v ≡ None;
-  write = λ v. [];
-}
+optional false f = already None

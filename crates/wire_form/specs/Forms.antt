@@ -1,5 +1,5 @@
 -- Forms: what a whole payload is, from its first byte to its last. As a field, but nothing follows.
-use Rattle.std.specs.Prelude.{◌≡◌, ℕ, ◌⊎◌, Bool, true, false, List, [], ◌∷◌, ◌++◌, Contains, Option, Some, None, Result, Ok, Err}
+use Rattle.std.specs.Prelude.{◌≡◌, ℕ, ◌⊎◌, Bool, true, false, List, [], ◌∷◌, ◌++◌, Contains, Option, Result, Ok, Err}
 use Rattle.lg_base.specs.Reading.{Cursor, Read, first, text_at}
 use Rattle.wire_form.specs.Fields.{Field, and_then, map_found}
 

@@ -1,5 +1,5 @@
 -- What a reader of whole payloads answers, by the form of its payloads.
-use Rattle.std.specs.Prelude.{◌≡◌, ℕ, ◌<◌, ◌≤◌, List, ◌++◌, length, take, All, Option, Some, None, IfSome, IfOk, IfErr, Result, Ok, Err}
+use Rattle.std.specs.Prelude.{◌≡◌, ℕ, ◌<◌, ◌≤◌, List, ◌++◌, length, take, All, Option, None, IfSome, IfOk, IfErr, Result, Ok, Err}
 use Rattle.lg_base.specs.Reading.{Cursor}
 use Rattle.wire_form.specs.Fields.{Found}
 
