@@ -1,5 +1,5 @@
 -- Calls of the outside that fail, and the counts that tell of it.
-use Rattle.std.specs.Prelude.{◌≡◌, ℕ, ◌+◌, ◌-◌, ◌^◌, ◌≤◌, min}
+use Rattle.std.specs.Prelude.{ℕ, ◌+◌, ◌-◌, ◌^◌, ◌≤◌, min}
 
 -- the number after n, but a count stands still at its type's end
 abbrev pub counted : ℕ → ℕ

@@ -1,5 +1,5 @@
 -- What a call of a form in memory does to its plan of failures.
-use Rattle.std.specs.Prelude.{◌≡◌, ℕ, Bool, List, if◌then◌else◌, ◌==◌}
+use Rattle.std.specs.Prelude.{Bool, if◌then◌else◌, ◌==◌}
 use Rattle.std.specs.List.{list_any}
 use Rattle.lg_outside.specs.Faults.{counted}
 use Rattle.lg_outside.specs.PlanOf.{Plan}

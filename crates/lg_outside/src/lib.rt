@@ -15,3 +15,6 @@ pub use memory_streams::{MemorySink, MemorySource};
 pub use planned_faults::PlannedFaults;
 pub use standard_streams::{StdSink, StdSource};
 pub use streams::{Failed, Sink, Source};
+
+#[cfg(test)]
+mod tests;

@@ -1,7 +1,11 @@
-//! Adapters over the standard library's readers and writers. They tell nothing of content: of them it is
-//! proved that they are safe, and that they fail only where their count of faults rose.
+//! Adapters over the standard library's readers and writers. As streams they tell nothing of content. Of
+//! their calls it is proved that each hands on what its reader gave or its writer took, as far as those
+//! tell it, and that the count of faults rises exactly where a call fails.
 
-ghost use Rattle.std.specs.Prelude.{◌≡◌, None};
+ghost use Rattle.lg_outside.specs.Faults.{Rose, counted};
+ghost use Rattle.lg_outside.specs.Streams.{Adds, AddsTo, Gives};
+ghost use Rattle.std.specs.Io.KnownBytes.{ReadConsumes, WriteAppends};
+ghost use Rattle.std.specs.Prelude.{◌≡◌, ◌<◌, ◌≤◌, if◌then◌else◌, IfOk, None, OnErr, is_err, length};
 
 use crate::streams::{Failed, Sink, Source};
 use std::io::{Read, Write};
@@ -27,7 +31,17 @@ impl<R: Read> Source for StdSource<R> {
 
     ghost fault_count = { λ s. s.faults };
 
-    fn read(&mut self, buf: &mut [u8]) -> Result<usize, Failed> {
+    // It is one read of the reader. Each of that one's errors counts as a fault.
+    fn read(&mut self, buf: &mut [u8]) -> Result<usize, Failed>
+        requires { 0 < length buf.old }
+        ensures within { IfOk result (λ count. count ≤ length buf.new) }
+        ensures bytes { Gives None None result buf.new }
+        ensures cause { OnErr result (Rose self.old.faults self.new.faults) }
+        ensures rising { self.old.faults ≤ self.new.faults }
+
+        ensures reader { ReadConsumes (R.remaining self.old.reader) (R.remaining self.new.reader) result buf.new }
+        ensures count { self.new.faults ≡ (if is_err result then counted self.old.faults else self.old.faults) }
+    {
         match self.reader.read(buf) {
             Ok(count) => Ok(count),
             Err(_) => {
@@ -56,6 +70,22 @@ impl<W: Write> StdSink<W> {
     {
         StdSink { writer, faults: 0 }
     }
+
+    /// Writes at least one of the bytes, and answers how many. A write that takes nothing is a fault.
+    fn write_some(&mut self, bytes: &[u8]) -> Result<usize, Failed>
+        requires { 0 < length bytes.now }
+        ensures within { IfOk result (λ count. (1 ≤ count) × (count ≤ length bytes.now)) }
+        ensures rising { self.old.faults ≤ self.new.faults }
+        ensures writer { WriteAppends (W.contents self.old.writer) (W.contents self.new.writer) result bytes.now }
+        ensures count { self.new.faults ≡ (if is_err result then counted self.old.faults else self.old.faults) }
+    {
+        let written = self.writer.write(bytes).unwrap_or(0);
+        if written == 0 {
+            self.faults = self.faults.saturating_add(1);
+            return Err(Failed);
+        }
+        Ok(written)
+    }
 }
 
 impl<W: Write> Sink for StdSink<W> {
@@ -63,15 +93,21 @@ impl<W: Write> Sink for StdSink<W> {
 
     ghost fault_count = { λ s. s.faults };
 
-    fn write_all(&mut self, bytes: &[u8]) -> Result<(), Failed> {
+    // It writes to the writer until that one took all. An error of the writer counts as a fault, and so
+    // does a write that took nothing.
+    fn write_all(&mut self, bytes: &[u8]) -> Result<(), Failed>
+        ensures bytes { Adds None None result bytes.now }
+        ensures cause { OnErr result (Rose self.old.faults self.new.faults) }
+        ensures rising { self.old.faults ≤ self.new.faults }
+
+        ensures writer { AddsTo (W.contents self.old.writer) (W.contents self.new.writer) result bytes.now }
+        ensures count { self.new.faults ≡ (if is_err result then counted self.old.faults else self.old.faults) }
+    {
         let mut left = bytes;
         while !left.is_empty() {
-            match self.writer.write(left) {
-                Ok(0) | Err(_) => {
-                    self.faults = self.faults.saturating_add(1);
-                    return Err(Failed);
-                }
+            match self.write_some(left) {
                 Ok(count) => left = &left[count..],
+                Err(failed) => return Err(failed),
             }
         }
         Ok(())

@@ -1,8 +1,12 @@
-use Rattle.std.proofs.Common.{◌≡◌, length}
+-- What is gone from `left` was written, and no fault was counted.
+use Rattle.std.proofs.Common.{◌≡◌, ℕ, List, ◌++◌, length}
+use Rattle.std.specs.Io.KnownBytes.{Appends}
 use Rattle.lg_outside.proofs.standard_streams.StdSinkSink.write_all.Given as goal
 
 abbrev pub invariant-loop-left : goal.invariant-loop-left
-invariant-loop-left g l = l.self.faults ≡ l.fn.self.faults
+invariant-loop-left g l =
+    (l.self.faults ≡ l.fn.self.faults)
+    × (done : List ℕ) × (l.initial.left ≡ done ++ l.left) × Appends (g.W.Write.contents l.fn.self.writer) (g.W.Write.contents l.self.writer) done
 
 abbrev pub decreases-loop-left : goal.decreases-loop-left
 decreases-loop-left g l = length l.left
