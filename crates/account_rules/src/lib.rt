@@ -11,3 +11,6 @@ pub mod refusals;
 
 pub use accounts::{Account, Lifetime, Limit, Settings};
 pub use refusals::{Rule, expired, first_refusal};
+
+#[cfg(test)]
+mod tests;
