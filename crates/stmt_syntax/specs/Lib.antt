@@ -1,1 +1,5 @@
 pub mod Tokens
+pub mod Patterns
+pub mod Forms
+pub mod Grammar
+pub mod Reading

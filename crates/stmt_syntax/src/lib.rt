@@ -10,6 +10,7 @@
 //! ([`rules`]). `lg_base` and `thiserror` stand below.
 #![tactic(auto)]
 
+mod cursor;
 pub mod statement;
 pub mod token;
 
