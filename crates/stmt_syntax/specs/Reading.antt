@@ -6,6 +6,8 @@ use Rattle.stmt_syntax.specs.Grammar.{statement}
 use Rattle.stmt_syntax.specs.declared.statement.Statement.{Statement}
 use Rattle.stmt_syntax.specs.declared.cursor.Fault.{Fault}
 use Rattle.stmt_syntax.specs.declared.cursor.Fault.TheVariants as fault
+use Rattle.stmt_syntax.specs.declared.SyntaxFault.{SyntaxFault}
+use Rattle.stmt_syntax.specs.declared.SyntaxFault.TheVariants as syntax
 use Rattle.stmt_syntax.specs.declared.token.Token.{Token}
 
 -- A call reads by a form: the value, with the cursor behind it; or the fault, with the cursor at it.
@@ -19,3 +21,12 @@ Takes form old new (Err fault.Memory) = Unit {0}
 abbrev pub place_of : ℕ → List Token → ℕ
 place_of size [] = size
 place_of size (t ∷ ts) = t.place
+
+-- the statement and what is behind it, or the fault
+abbrev pub reading : List ℕ → Read Statement
+reading text = statement.read (tokens text)
+
+abbrev pub Reads : List ℕ → Result Statement SyntaxFault → Type 0
+Reads text (Ok v) = (rest : List Token) × (reading text ≡ Ok (v, rest))
+Reads text (Err (syntax.At place)) = (rest : List Token) × (reading text ≡ Err rest) × (place ≡ place_of (length text) rest)
+Reads text (Err syntax.Memory) = Unit {0}

@@ -1,6 +1,6 @@
 //! A cursor over the tokens of a text, and the calls by which every rule of the grammar takes them.
 
-ghost use Rattle.std.specs.Prelude.{◌≡◌, ◌+◌, ◌*◌, ◌-◌, ◌<◌, min, drop, length, if◌then◌else◌, MatchOption, true, false, IfOk};
+ghost use Rattle.std.specs.Prelude.{◌≡◌, ◌↔◌, [], IsTrue, ◌+◌, ◌*◌, ◌-◌, ◌<◌, min, drop, length, if◌then◌else◌, MatchOption, true, false, IfOk};
 ghost use Rattle.std.specs.Char.{is_ascii_digit};
 ghost use Rattle.std.specs.List.{list_all};
 ghost use Rattle.stmt_syntax.specs.Forms.{begins, first_text, gives, next, refused};
@@ -152,6 +152,13 @@ impl<'a> Cursor<'a> {
         ensures { result ≡ length self.now }
     {
         self.rest.len()
+    }
+
+    /// Whether no token is left.
+    pub fn is_at_end(&self) -> bool
+        ensures { IsTrue result ↔ (self.now ≡ []) }
+    {
+        self.rest.is_empty()
     }
 
     /// The place of the next token in a text of `size` bytes: `size` at the end.

@@ -6,14 +6,59 @@
 //!
 //! The grammar is a part of the one in the MySQL 8.0 Reference Manual, "Account Management
 //! Statements", with its tokens as in "String Literals" and "Schema Object Names". A text is first
-//! cut into tokens ([`token`]), and the tokens are then read one rule of the grammar after another
-//! ([`rules`]). `lg_base` and `thiserror` stand below.
+//! cut into tokens (`token`), and the tokens are then read one rule of the grammar after another
+//! (`rules`). `lg_base` and `thiserror` stand below.
 #![tactic(auto)]
 
-mod cursor;
-pub mod statement;
-pub mod token;
+ghost use Rattle.stmt_syntax.specs.Reading.{Reads};
 
+mod cursor;
+mod rules;
+pub mod statement;
+mod token;
+
+use cursor::{Cursor, Fault};
+use lg_base::Memory;
 pub use statement::{
     Auth, Bound, Change, Expire, FactorAuth, Options, Privileges, Statement, Target, Time,
 };
+use std::alloc::Global;
+use thiserror::Error;
+
+/// Why a text is read to no statement.
+#[derive(Debug, PartialEq, Eq, Drop, Error)]
+pub enum SyntaxFault {
+    /// No statement fits at the token that begins at `place`, counted from 0: at the text's length
+    /// where the text ends too early.
+    #[error("no statement fits at place {place}")]
+    At { place: usize },
+    /// No memory was to be had.
+    #[error("no memory was to be had")]
+    Memory,
+}
+
+impl From<Memory> for SyntaxFault {
+    ghost use Rattle.std.specs.Prelude.{◌≡◌};
+    ghost use Rattle.stmt_syntax.specs.declared.SyntaxFault.TheVariants as fault;
+
+    ghost from_gives = { λ _ made. made ≡ fault.Memory };
+
+    fn from(_refused: Memory) -> SyntaxFault {
+        SyntaxFault::Memory
+    }
+}
+
+/// The statement that a text is.
+pub fn read(alloc: Global, text: &[u8]) -> Result<Statement, SyntaxFault>
+    ensures { Reads text.now result }
+{
+    let tokens = token::tokens(alloc, text)?;
+    let mut cursor = Cursor::new(tokens.as_slice());
+    match cursor.statement(alloc) {
+        Ok(statement) => Ok(statement),
+        Err(Fault::Here) => Err(SyntaxFault::At {
+            place: cursor.place(text.len()),
+        }),
+        Err(Fault::Memory) => Err(SyntaxFault::Memory),
+    }
+}
