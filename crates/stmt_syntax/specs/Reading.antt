@@ -27,6 +27,6 @@ abbrev pub reading : List ℕ → Read Statement
 reading text = statement.read (tokens text)
 
 abbrev pub Reads : List ℕ → Result Statement SyntaxFault → Type 0
-Reads text (Ok v) = (rest : List Token) × (reading text ≡ Ok (v, rest))
+Reads text (Ok v) = reading text ≡ Ok (v, [])
 Reads text (Err (syntax.At place)) = (rest : List Token) × (reading text ≡ Err rest) × (place ≡ place_of (length text) rest)
 Reads text (Err syntax.Memory) = Unit {0}

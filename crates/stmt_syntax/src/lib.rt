@@ -10,15 +10,18 @@
 //! (`rules`). `lg_base` and `thiserror` stand below.
 #![tactic(auto)]
 
+ghost use Rattle.std.specs.Prelude.{◌≡◌, ◌++◌, OnOk, OnErr};
+ghost use Rattle.stmt_syntax.specs.Printing.{printed};
 ghost use Rattle.stmt_syntax.specs.Reading.{Reads};
 
 mod cursor;
+mod printing;
 mod rules;
 pub mod statement;
 mod token;
 
 use cursor::{Cursor, Fault};
-use lg_base::Memory;
+use lg_base::{Memory, Out};
 pub use statement::{
     Auth, Bound, Change, Expire, FactorAuth, Options, Privileges, Statement, Target, Time,
 };
@@ -61,4 +64,15 @@ pub fn read(alloc: Global, text: &[u8]) -> Result<Statement, SyntaxFault>
         }),
         Err(Fault::Memory) => Err(SyntaxFault::Memory),
     }
+}
+
+/// Adds the text of a statement at the end of `out`: keywords in upper case, one space between tokens,
+/// names and strings in `'`. After `Memory` nothing was added.
+pub fn print(statement: &Statement, out: &mut Out) -> Result<(), Memory>
+    ensures ok { OnOk result (out.new ≡ out.old ++ printed statement.now) }
+    ensures err { OnErr result (out.new ≡ out.old) }
+{
+    let mut text = out.beside();
+    printing::put_statement(statement, &mut text)?;
+    out.bytes(text.as_slice())
 }

@@ -3,9 +3,9 @@
 //! MySQL 8.0 Reference Manual, "Account Management Statements". A call that answers
 //! [`Fault::Here`] leaves the cursor at the token that doesn't fit.
 
-ghost use Rattle.std.specs.Prelude.{◌≡◌, Some, None, true, false};
+ghost use Rattle.std.specs.Prelude.{◌≡◌, [], OnOk, Some, None, true, false};
 ghost use Rattle.stmt_syntax.specs.Grammar.{alter, alter_named, alter_own, auth, bound, bound_in_days, change, create, discarded, dropped, expire, factor, factors, flushed, further_options, further_privilege, grant, host, is_nothing, lock_time, name, name_of, numbered, on_all, option, options, over, own_change, password, password_option, account_option, privilege, privileges, retained, revoke, statement, target, ways};
-ghost use Rattle.stmt_syntax.specs.Forms.{read_times};
+ghost use Rattle.stmt_syntax.specs.Forms.{many};
 ghost use Rattle.stmt_syntax.specs.Reading.{Takes};
 
 use crate::cursor::{Cursor, Fault};
@@ -250,6 +250,7 @@ impl<'a> Cursor<'a> {
     }
 
     /// Options behind the first one. Each takes a token, so there are no more than tokens.
+    #[tactic(auto, using(crate::proofs::Loops::once_more))]
     fn further_options(&mut self, first: Options) -> Result<Options, Fault>
         ensures { Takes (further_options (Some first)) self.old self.new result }
     {
@@ -277,7 +278,8 @@ impl<'a> Cursor<'a> {
     /// `[';']` and the end.
     #[tactic(auto, unfolding(crate::specs::Grammar::over))]
     fn over(&mut self) -> Result<(), Fault>
-        ensures { Takes over self.old self.new result }
+        ensures taken { Takes over self.old self.new result }
+        ensures end { OnOk result (self.new ≡ []) }
     {
         let _ = self.takes_sign(b';');
         if self.is_at_end() {
@@ -387,7 +389,8 @@ impl<'a> Cursor<'a> {
     /// The rest of a `CREATE USER`.
     #[tactic(auto, unfolding(crate::specs::Grammar::create))]
     fn create(&mut self, alloc: Global) -> Result<Statement, Fault>
-        ensures { Takes create self.old self.new result }
+        ensures taken { Takes create self.old self.new result }
+        ensures end { OnOk result (self.new ≡ []) }
     {
         let name = self.name(alloc)?;
         let (auth, factors) = self.ways(alloc)?;
@@ -404,7 +407,8 @@ impl<'a> Cursor<'a> {
     /// The rest of an `ALTER USER USER()`.
     #[tactic(auto, unfolding(crate::specs::Grammar::alter_own))]
     fn alter_own(&mut self, alloc: Global) -> Result<Statement, Fault>
-        ensures { Takes alter_own self.old self.new result }
+        ensures taken { Takes alter_own self.old self.new result }
+        ensures end { OnOk result (self.new ≡ []) }
     {
         let change = self.own_change(alloc)?;
         self.over()?;
@@ -418,7 +422,8 @@ impl<'a> Cursor<'a> {
     /// The rest of an `ALTER USER` of a named account.
     #[tactic(auto, unfolding(crate::specs::Grammar::alter_named))]
     fn alter_named(&mut self, alloc: Global, name: Name) -> Result<Statement, Fault>
-        ensures { Takes (alter_named name) self.old self.new result }
+        ensures taken { Takes (alter_named name) self.old self.new result }
+        ensures end { OnOk result (self.new ≡ []) }
     {
         let change = self.change(alloc)?;
         let options = self.options(is_nothing(&change))?;
@@ -433,7 +438,8 @@ impl<'a> Cursor<'a> {
     /// The rest of an `ALTER USER`.
     #[tactic(auto, unfolding(crate::specs::Grammar::alter))]
     fn alter(&mut self, alloc: Global) -> Result<Statement, Fault>
-        ensures { Takes alter self.old self.new result }
+        ensures taken { Takes alter self.old self.new result }
+        ensures end { OnOk result (self.new ≡ []) }
     {
         match self.target(alloc)? {
             Target::Own => self.alter_own(alloc),
@@ -468,15 +474,12 @@ impl<'a> Cursor<'a> {
         Ok(Some(made))
     }
 
-    /// Privileges with commas between them. Each takes a token, so there are no more than tokens.
-    #[tactic(auto, unfolding(crate::specs::Grammar::privileges))]
-    fn privileges(&mut self) -> Result<Privileges, Fault>
-        ensures { Takes privileges self.old self.new result }
+    /// Privileges behind the first one. Each takes a token, so there are no more than tokens.
+    #[tactic(auto, using(crate::proofs::Loops::once_more))]
+    fn further_privileges(&mut self, first: Privileges) -> Result<Privileges, Fault>
+        ensures { Takes (many further_privilege first) self.old self.new result }
     {
-        let mut privileges = self.privilege(Privileges {
-            create_user: false,
-            password_admin: false,
-        })?;
+        let mut privileges = first;
         for _ in 0..self.len() {
             match self.further_privilege(privileges)? {
                 Some(made) => privileges = made,
@@ -484,6 +487,18 @@ impl<'a> Cursor<'a> {
             }
         }
         Ok(privileges)
+    }
+
+    /// Privileges with commas between them.
+    #[tactic(auto, unfolding(crate::specs::Grammar::privileges))]
+    fn privileges(&mut self) -> Result<Privileges, Fault>
+        ensures { Takes privileges self.old self.new result }
+    {
+        let first = self.privilege(Privileges {
+            create_user: false,
+            password_admin: false,
+        })?;
+        self.further_privileges(first)
     }
 
     /// `ON *.*`.
@@ -500,7 +515,8 @@ impl<'a> Cursor<'a> {
     /// The rest of a `GRANT`.
     #[tactic(auto, unfolding(crate::specs::Grammar::grant))]
     fn grant(&mut self, alloc: Global) -> Result<Statement, Fault>
-        ensures { Takes grant self.old self.new result }
+        ensures taken { Takes grant self.old self.new result }
+        ensures end { OnOk result (self.new ≡ []) }
     {
         let privileges = self.privileges()?;
         self.on_all()?;
@@ -513,7 +529,8 @@ impl<'a> Cursor<'a> {
     /// The rest of a `REVOKE`.
     #[tactic(auto, unfolding(crate::specs::Grammar::revoke))]
     fn revoke(&mut self, alloc: Global) -> Result<Statement, Fault>
-        ensures { Takes revoke self.old self.new result }
+        ensures taken { Takes revoke self.old self.new result }
+        ensures end { OnOk result (self.new ≡ []) }
     {
         let privileges = self.privileges()?;
         self.on_all()?;
@@ -526,7 +543,8 @@ impl<'a> Cursor<'a> {
     /// The rest of a `DROP USER`.
     #[tactic(auto, unfolding(crate::specs::Grammar::dropped))]
     fn dropped(&mut self, alloc: Global) -> Result<Statement, Fault>
-        ensures { Takes dropped self.old self.new result }
+        ensures taken { Takes dropped self.old self.new result }
+        ensures end { OnOk result (self.new ≡ []) }
     {
         let name = self.name(alloc)?;
         self.over()?;
@@ -536,7 +554,8 @@ impl<'a> Cursor<'a> {
     /// The rest of a `FLUSH`.
     #[tactic(auto, unfolding(crate::specs::Grammar::flushed))]
     fn flushed(&mut self) -> Result<Statement, Fault>
-        ensures { Takes flushed self.old self.new result }
+        ensures taken { Takes flushed self.old self.new result }
+        ensures end { OnOk result (self.new ≡ []) }
     {
         self.word(b"PRIVILEGES")?;
         self.over()?;
@@ -546,7 +565,8 @@ impl<'a> Cursor<'a> {
     /// A statement.
     #[tactic(auto, unfolding(crate::specs::Grammar::statement))]
     pub fn statement(&mut self, alloc: Global) -> Result<Statement, Fault>
-        ensures { Takes statement self.old self.new result }
+        ensures taken { Takes statement self.old self.new result }
+        ensures end { OnOk result (self.new ≡ []) }
     {
         if self.takes_word(b"CREATE") {
             self.word(b"USER")?;
