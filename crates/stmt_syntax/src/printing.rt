@@ -1,13 +1,13 @@
 //! Statements as texts: keywords in upper case, one space between tokens, names and strings in `'`,
 //! options in the order of their fields.
 
-ghost use Rattle.std.specs.Prelude.{◌≡◌, ◌++◌, OnOk, IfOk, decimal, flat_map};
-ghost use Rattle.stmt_syntax.specs.Printing.{and_factor_text, attempts_text, auth_text, change_text, expire_text, factor_text, history_text, lock_text, lock_time_text, name_text, optional_auth_text, options_text, printed, privileges_text, quoted, reuse_text, target_text, written_byte};
+ghost use Rattle.std.specs.Prelude.{◌≡◌, ◌++◌, OnOk, codes, decimal, flat_map};
+ghost use Rattle.stmt_syntax.specs.Printing.{and_factor_text, attempts_text, auth_text, change_text, expire_text, factor_text, history_text, lock_text, lock_time_text, method_text, name_text, optional_auth_text, options_text, password_text, printed, privileges_text, quoted, retain_text, reuse_text, target_text, written_byte};
 
 use crate::statement::{
     Auth, Bound, Change, Expire, FactorAuth, Options, Privileges, Statement, Target, Time,
 };
-use lg_base::{Host, Memory, Name, Out};
+use lg_base::{Bytes, Host, Memory, Name, Out};
 
 /// A byte within quotes.
 fn put_byte(byte: u8, out: &mut Out) -> Result<(), Memory>
@@ -41,6 +41,22 @@ fn put_number(number: u32, out: &mut Out) -> Result<(), Memory>
     out.bytes(digits.as_bytes())
 }
 
+/// These words and a number.
+fn put_count(words: &[u8], count: u32, out: &mut Out) -> Result<(), Memory>
+    ensures { OnOk result (out.new ≡ out.old ++ (words.now ++ decimal count)) }
+{
+    out.bytes(words)?;
+    put_number(count, out)
+}
+
+/// These words and a number of days.
+fn put_days(words: &[u8], days: u32, out: &mut Out) -> Result<(), Memory>
+    ensures { OnOk result (out.new ≡ out.old ++ (words.now ++ decimal days ++ codes " DAY")) }
+{
+    put_count(words, days, out)?;
+    out.bytes(b" DAY")
+}
+
 /// A name, its host in quotes.
 #[tactic(auto, unfolding(crate::specs::Printing::name_text))]
 fn put_name(name: &Name, out: &mut Out) -> Result<(), Memory>
@@ -53,24 +69,48 @@ fn put_name(name: &Name, out: &mut Out) -> Result<(), Memory>
     }
 }
 
+/// ` WITH ..`, where a method stands.
+fn put_method(method: &Option<Bytes>, out: &mut Out) -> Result<(), Memory>
+    ensures { OnOk result (out.new ≡ out.old ++ method_text method.now) }
+{
+    let Some(method) = method else {
+        return Ok(());
+    };
+    out.bytes(b" WITH ")?;
+    put_quoted(method.as_slice(), out)
+}
+
+/// ` BY ..`, where a password stands.
+fn put_password(password: &Option<Bytes>, out: &mut Out) -> Result<(), Memory>
+    ensures { OnOk result (out.new ≡ out.old ++ password_text password.now) }
+{
+    let Some(password) = password else {
+        return Ok(());
+    };
+    out.bytes(b" BY ")?;
+    put_quoted(password.as_slice(), out)
+}
+
+/// ` RETAIN CURRENT PASSWORD`, where it stands.
+fn put_retain(retain: bool, out: &mut Out) -> Result<(), Memory>
+    ensures { OnOk result (out.new ≡ out.old ++ retain_text retain) }
+{
+    if retain {
+        out.bytes(b" RETAIN CURRENT PASSWORD")
+    } else {
+        Ok(())
+    }
+}
+
 /// ` IDENTIFIED ..` of an account's own way.
 #[tactic(auto, unfolding(crate::specs::Printing::auth_text))]
 fn put_auth(auth: &Auth, out: &mut Out) -> Result<(), Memory>
     ensures { OnOk result (out.new ≡ out.old ++ auth_text auth.now) }
 {
     out.bytes(b" IDENTIFIED")?;
-    if let Some(method) = &auth.method {
-        out.bytes(b" WITH ")?;
-        put_quoted(method.as_slice(), out)?;
-    }
-    if let Some(password) = &auth.password {
-        out.bytes(b" BY ")?;
-        put_quoted(password.as_slice(), out)?;
-    }
-    if auth.retain {
-        out.bytes(b" RETAIN CURRENT PASSWORD")?;
-    }
-    Ok(())
+    put_method(&auth.method, out)?;
+    put_password(&auth.password, out)?;
+    put_retain(auth.retain, out)
 }
 
 /// The same, where it stands.
@@ -116,11 +156,7 @@ fn put_expire(expire: Option<Expire>, out: &mut Out) -> Result<(), Memory>
         Some(Expire::Now) => out.bytes(b" PASSWORD EXPIRE"),
         Some(Expire::Default) => out.bytes(b" PASSWORD EXPIRE DEFAULT"),
         Some(Expire::Never) => out.bytes(b" PASSWORD EXPIRE NEVER"),
-        Some(Expire::Days(days)) => {
-            out.bytes(b" PASSWORD EXPIRE INTERVAL ")?;
-            put_number(days, out)?;
-            out.bytes(b" DAY")
-        }
+        Some(Expire::Days(days)) => put_days(b" PASSWORD EXPIRE INTERVAL ", days, out),
     }
 }
 
@@ -132,10 +168,7 @@ fn put_history(history: Option<Bound>, out: &mut Out) -> Result<(), Memory>
     match history {
         None => Ok(()),
         Some(Bound::Default) => out.bytes(b" PASSWORD HISTORY DEFAULT"),
-        Some(Bound::Count(count)) => {
-            out.bytes(b" PASSWORD HISTORY ")?;
-            put_number(count, out)
-        }
+        Some(Bound::Count(count)) => put_count(b" PASSWORD HISTORY ", count, out),
     }
 }
 
@@ -147,11 +180,7 @@ fn put_reuse(reuse: Option<Bound>, out: &mut Out) -> Result<(), Memory>
     match reuse {
         None => Ok(()),
         Some(Bound::Default) => out.bytes(b" PASSWORD REUSE INTERVAL DEFAULT"),
-        Some(Bound::Count(days)) => {
-            out.bytes(b" PASSWORD REUSE INTERVAL ")?;
-            put_number(days, out)?;
-            out.bytes(b" DAY")
-        }
+        Some(Bound::Count(days)) => put_days(b" PASSWORD REUSE INTERVAL ", days, out),
     }
 }
 
@@ -162,10 +191,7 @@ fn put_attempts(attempts: Option<u32>, out: &mut Out) -> Result<(), Memory>
 {
     match attempts {
         None => Ok(()),
-        Some(count) => {
-            out.bytes(b" FAILED_LOGIN_ATTEMPTS ")?;
-            put_number(count, out)
-        }
+        Some(count) => put_count(b" FAILED_LOGIN_ATTEMPTS ", count, out),
     }
 }
 
@@ -177,10 +203,7 @@ fn put_lock_time(lock_time: Option<Time>, out: &mut Out) -> Result<(), Memory>
     match lock_time {
         None => Ok(()),
         Some(Time::Unbounded) => out.bytes(b" PASSWORD_LOCK_TIME UNBOUNDED"),
-        Some(Time::Days(days)) => {
-            out.bytes(b" PASSWORD_LOCK_TIME ")?;
-            put_number(days, out)
-        }
+        Some(Time::Days(days)) => put_count(b" PASSWORD_LOCK_TIME ", days, out),
     }
 }
 
