@@ -76,3 +76,6 @@ pub fn print(statement: &Statement, out: &mut Out) -> Result<(), Memory>
     printing::put_statement(statement, &mut text)?;
     out.bytes(text.as_slice())
 }
+
+#[cfg(test)]
+mod tests;
