@@ -1,6 +1,6 @@
 -- A loop of a grammar, one step at a time.
-use Rattle.std.proofs.Common.{◌≡◌, ℕ, zero, suc, ◌+◌, ◌-◌, ◌<◌, List, Option, arith, refl, ap, ◌∙◌}
-use Rattle.stmt_syntax.specs.Forms.{Form, Read, and_then, read_further, read_times}
+use Rattle.std.proofs.Common.{◌≡◌, ℕ, suc, ◌+◌, ◌-◌, ◌<◌, List, Option, arith, ap}
+use Rattle.stmt_syntax.specs.Forms.{Form, and_then, read_further, read_times}
 use Rattle.stmt_syntax.specs.declared.token.Token.{Token}
 
 pub once_more : {S : Type 0} (f : S → Form (Option S)) (n k : ℕ) (s : S) (ts : List Token) → k < n

@@ -1,9 +1,9 @@
 -- The grammar of the account statements: MySQL 8.0 Reference Manual, "Account Management Statements".
-use Rattle.std.specs.Prelude.{ℕ, Bool, true, false, List, [], ◌∷◌, codes, Option, Some, None}
+use Rattle.std.specs.Prelude.{◌≡◌, refl, Ok, ℕ, Bool, true, false, List, [], ◌∷◌, codes, Option, Some, None}
 use Rattle.lg_base.specs.declared.names.Host.{Host}
 use Rattle.lg_base.specs.declared.names.Host.TheVariants.{Localhost, Any}
 use Rattle.lg_base.specs.declared.names.Name.{Name}
-use Rattle.stmt_syntax.specs.Forms.{Form, gives, refused, ends, next, seq, many, either}
+use Rattle.stmt_syntax.specs.Forms.{Form, gives, refused, ends, next, seq, many, either, Repeats, Shortens, none_shortens, next_shortens}
 use Rattle.stmt_syntax.specs.Patterns.{Pattern, Word, Sign, Part, PartLike, InQuotes, Text, Number, number_of}
 use Rattle.stmt_syntax.specs.declared.statement.Auth.{Auth}
 use Rattle.stmt_syntax.specs.declared.statement.Bound.{Bound}
@@ -119,23 +119,55 @@ account_option o =
     next (Word (codes "LOCK")) (λ _. gives (record o { lock = Some true }))
     (just (Word (codes "UNLOCK")) (gives (record o { lock = Some false })))
 
+-- an option behind the options so far, behind its first word
+abbrev pub password_clause : Options → Form (Option Options)
+password_clause o = seq (password_option o) (λ made. gives (Some made))
+
+abbrev pub attempts_clause : Options → Form (Option Options)
+attempts_clause o = next Number (λ n. gives (Some (record o { attempts = Some (number_of n) }))) refused
+
+abbrev pub lock_time_clause : Options → Form (Option Options)
+lock_time_clause o = seq lock_time (λ t. gives (Some (record o { lock_time = Some t })))
+
+abbrev pub account_clause : Options → Form (Option Options)
+account_clause o = seq (account_option o) (λ made. gives (Some made))
+
 -- an option behind the options so far; or none, where none is needed
 unfoldable pub option : Bool → Options → Form (Option Options)
 option needed o =
-    next (Word (codes "PASSWORD")) (λ _. seq (password_option o) (λ made. gives (Some made)))
-    (next (Word (codes "FAILED_LOGIN_ATTEMPTS"))
-    (λ _. next Number (λ n. gives (Some (record o { attempts = Some (number_of n) }))) refused)
-    (next (Word (codes "PASSWORD_LOCK_TIME"))
-    (λ _. seq lock_time (λ t. gives (Some (record o { lock_time = Some t }))))
-    (next (Word (codes "ACCOUNT")) (λ _. seq (account_option o) (λ made. gives (Some made)))
+    next (Word (codes "PASSWORD")) (λ _. password_clause o)
+    (next (Word (codes "FAILED_LOGIN_ATTEMPTS")) (λ _. attempts_clause o)
+    (next (Word (codes "PASSWORD_LOCK_TIME")) (λ _. lock_time_clause o)
+    (next (Word (codes "ACCOUNT")) (λ _. account_clause o)
     (either needed refused (gives None)))))
+
+option_ends : (o : Options) → (option false o).read [] ≡ Ok (None, [])
+unfolding option
+option_ends o = refl
+
+option_shortens : (o : Options) → Shortens (option false o)
+unfolding option
+option_shortens o =
+    next_shortens (Word (codes "PASSWORD")) (λ _. password_clause o)
+    (next (Word (codes "FAILED_LOGIN_ATTEMPTS")) (λ _. attempts_clause o)
+    (next (Word (codes "PASSWORD_LOCK_TIME")) (λ _. lock_time_clause o)
+    (next (Word (codes "ACCOUNT")) (λ _. account_clause o) (gives None))))
+    (next_shortens (Word (codes "FAILED_LOGIN_ATTEMPTS")) (λ _. attempts_clause o)
+    (next (Word (codes "PASSWORD_LOCK_TIME")) (λ _. lock_time_clause o)
+    (next (Word (codes "ACCOUNT")) (λ _. account_clause o) (gives None)))
+    (next_shortens (Word (codes "PASSWORD_LOCK_TIME")) (λ _. lock_time_clause o)
+    (next (Word (codes "ACCOUNT")) (λ _. account_clause o) (gives None))
+    (next_shortens (Word (codes "ACCOUNT")) (λ _. account_clause o) (gives None) none_shortens)))
+
+pub option_repeats : Repeats (option false)
+option_repeats = record { at_the_end = option_ends; shorter = λ o further ts mid h. option_shortens o further ts mid h }
 
 abbrev pub no_options : Options
 no_options = record { expire = None; history = None; reuse = None; attempts = None; lock_time = None; lock = None }
 
 abbrev pub further_options : Option Options → Form Options
 further_options None = gives no_options
-further_options (Some o) = many (option false) o
+further_options (Some o) = many (option false) option_repeats o
 
 -- {option}, with one at least where one is needed
 unfoldable pub options : Bool → Form Options
@@ -219,9 +251,20 @@ privilege p =
 unfoldable pub further_privilege : Privileges → Form (Option Privileges)
 further_privilege p = next (Sign 44) (λ _. seq (privilege p) (λ made. gives (Some made))) (gives None)
 
+further_ends : (p : Privileges) → (further_privilege p).read [] ≡ Ok (None, [])
+unfolding further_privilege
+further_ends p = refl
+
+further_shortens : (p : Privileges) → Shortens (further_privilege p)
+unfolding further_privilege
+further_shortens p = next_shortens (Sign 44) (λ _. seq (privilege p) (λ made. gives (Some made))) (gives None) none_shortens
+
+pub privilege_repeats : Repeats further_privilege
+privilege_repeats = record { at_the_end = further_ends; shorter = λ p further ts mid h. further_shortens p further ts mid h }
+
 -- privilege {',' privilege}
 unfoldable pub privileges : Form Privileges
-privileges = seq (privilege (record { create_user = false; password_admin = false })) (many further_privilege)
+privileges = seq (privilege (record { create_user = false; password_admin = false })) (many further_privilege privilege_repeats)
 
 -- ON *.*
 unfoldable pub on_all : Form (Unit {0})

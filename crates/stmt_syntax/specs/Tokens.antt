@@ -1,6 +1,6 @@
 -- The tokens of a text: MySQL 8.0 Reference Manual, "String Literals" and "Schema Object Names".
 -- A text is scanned byte by byte, from the first to the last.
-use Rattle.std.specs.Prelude.{ℕ, ◌+◌, ◌==◌, Bool, true, false, ◌||◌, ◌&&◌, not, List, [], ◌∷◌, ◌++◌, if◌then◌else◌}
+use Rattle.std.specs.Prelude.{ℕ, ◌+◌, ◌==◌, Bool, ◌||◌, ◌&&◌, not, List, [], ◌∷◌, ◌++◌, if◌then◌else◌}
 use Rattle.std.specs.Char.{is_ascii_alphanumeric}
 use Rattle.stmt_syntax.specs.declared.token.Kind.{Kind}
 use Rattle.stmt_syntax.specs.declared.token.Kind.TheVariants as kind

@@ -12,7 +12,7 @@
 
 ghost use Rattle.std.specs.Prelude.{◌≡◌, ◌++◌, OnOk, OnErr};
 ghost use Rattle.stmt_syntax.specs.Printing.{printed};
-ghost use Rattle.stmt_syntax.specs.Reading.{Reads};
+ghost use Rattle.stmt_syntax.specs.Reading.{Accepts, Reads};
 
 mod cursor;
 mod printing;
@@ -51,8 +51,17 @@ impl From<Memory> for SyntaxFault {
     }
 }
 
-/// The statement that a text is.
+/// The statement that a text is. Words stand in any case, and options may stand several times: the last
+/// one of a kind counts. No text is two statements.
 pub fn read(alloc: Global, text: &[u8]) -> Result<Statement, SyntaxFault>
+    ensures reads { Reads text.now result }
+    ensures accepts { Accepts text.now result }
+{
+    read_tokens(alloc, text)
+}
+
+/// Cuts the text into tokens, and reads them by the grammar.
+fn read_tokens(alloc: Global, text: &[u8]) -> Result<Statement, SyntaxFault>
     ensures { Reads text.now result }
 {
     let tokens = token::tokens(alloc, text)?;

@@ -4,7 +4,7 @@
 //! [`Fault::Here`] leaves the cursor at the token that doesn't fit.
 
 ghost use Rattle.std.specs.Prelude.{◌≡◌, [], OnOk, Some, None, true, false};
-ghost use Rattle.stmt_syntax.specs.Grammar.{alter, alter_named, alter_own, auth, bound, bound_in_days, change, create, discarded, dropped, expire, factor, factors, flushed, further_options, further_privilege, grant, host, is_nothing, lock_time, name, name_of, numbered, on_all, option, options, over, own_change, password, password_option, account_option, privilege, privileges, retained, revoke, statement, target, ways};
+ghost use Rattle.stmt_syntax.specs.Grammar.{alter, alter_named, alter_own, auth, bound, bound_in_days, change, create, discarded, dropped, expire, factor, factors, flushed, further_options, further_privilege, privilege_repeats, grant, host, is_nothing, lock_time, name, name_of, numbered, on_all, option, options, over, own_change, password, password_option, account_option, privilege, privileges, retained, revoke, statement, target, ways};
 ghost use Rattle.stmt_syntax.specs.Forms.{many};
 ghost use Rattle.stmt_syntax.specs.Reading.{Takes};
 
@@ -477,7 +477,7 @@ impl<'a> Cursor<'a> {
     /// Privileges behind the first one. Each takes a token, so there are no more than tokens.
     #[tactic(auto, using(crate::proofs::Loops::once_more))]
     fn further_privileges(&mut self, first: Privileges) -> Result<Privileges, Fault>
-        ensures { Takes (many further_privilege first) self.old self.new result }
+        ensures { Takes (many further_privilege privilege_repeats first) self.old self.new result }
     {
         let mut privileges = first;
         for _ in 0..self.len() {

@@ -1,4 +1,4 @@
-use Rattle.std.proofs.Common.{arith, ◌∙◌, ◌≡◌, rules}
+use Rattle.std.proofs.Common.{arith, ◌∙◌}
 use Rattle.stmt_syntax.proofs.Numbers.{cut_digit}
 use Rattle.stmt_syntax.proofs.cursor.number_of.Goals as goal
 
