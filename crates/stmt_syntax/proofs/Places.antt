@@ -1,9 +1,9 @@
 -- What is read is what the grammar says, and the place of a fault is where no statement fits.
-use Rattle.std.proofs.Common.{◌≡◌, ℕ, List, [], ◌∷◌, ◌++◌, length, Result, Ok, Err, sym, ap, ◌∙◌}
+use Rattle.std.proofs.Common.{◌≡◌, ℕ, List, [], ◌∷◌, ◌++◌, length, IfOk, Result, Ok, Err, sym, ap, ◌∙◌}
 use Rattle.std.proofs.lemmas.List.{append-nil}
 use Rattle.stmt_syntax.specs.Forms.{Read, gives_sound, read_err, read_ok, rest_of, with_rest}
 use Rattle.stmt_syntax.specs.Grammar.{statement}
-use Rattle.stmt_syntax.specs.Reading.{Accepts, IsPlace, IsText, NoneFits, Reads, place_of, reading}
+use Rattle.stmt_syntax.specs.Reading.{Accepts, IsPlace, IsReadable, IsText, NoneFits, Reads, place_of, reading}
 use Rattle.stmt_syntax.specs.Tokens.{tokens}
 use Rattle.stmt_syntax.specs.declared.statement.Statement.{Statement}
 use Rattle.stmt_syntax.specs.declared.SyntaxFault.{SyntaxFault}
@@ -42,3 +42,7 @@ pub accepts : (text : List ℕ) (r : Result Statement SyntaxFault) → Reads tex
 accepts text (Ok v) h = (statement.sound v (tokens text) [] h, one_statement text v h)
 accepts text (Err (syntax.At place)) (rest, h, e) = (place_fits text place rest h e, not_text text rest h)
 accepts text (Err syntax.Memory) h = h
+
+pub readable : (text : List ℕ) (r : Result Statement SyntaxFault) → Reads text r → IfOk r IsReadable
+readable text (Ok v) h = (text, statement.sound v (tokens text) [] h)
+readable text (Err fault) h = tt

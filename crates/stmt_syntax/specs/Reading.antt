@@ -49,3 +49,7 @@ abbrev pub Accepts : List ℕ → Result Statement SyntaxFault → Type 0
 Accepts text (Ok v) = IsText v text × ((w : Statement) → IsText w text → w ≡ v)
 Accepts text (Err (syntax.At place)) = IsPlace text place × ((w : Statement) → IsText w text → ⊥)
 Accepts text (Err syntax.Memory) = Unit {0}
+
+-- a statement that some text is
+abbrev pub IsReadable : Statement → Type 0
+IsReadable v = (text : List ℕ) × IsText v text

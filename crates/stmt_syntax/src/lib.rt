@@ -10,9 +10,9 @@
 //! (`rules`). `lg_base` and `thiserror` stand below.
 #![tactic(auto)]
 
-ghost use Rattle.std.specs.Prelude.{◌≡◌, ◌++◌, OnOk, OnErr};
+ghost use Rattle.std.specs.Prelude.{◌≡◌, ◌++◌, IfOk, OnOk, OnErr};
 ghost use Rattle.stmt_syntax.specs.Printing.{printed};
-ghost use Rattle.stmt_syntax.specs.Reading.{Accepts, Reads};
+ghost use Rattle.stmt_syntax.specs.Reading.{Accepts, IsReadable, Reads};
 
 mod cursor;
 mod printing;
@@ -56,6 +56,7 @@ impl From<Memory> for SyntaxFault {
 pub fn read(alloc: Global, text: &[u8]) -> Result<Statement, SyntaxFault>
     ensures reads { Reads text.now result }
     ensures accepts { Accepts text.now result }
+    ensures readable { IfOk result IsReadable }
 {
     read_tokens(alloc, text)
 }
@@ -77,7 +78,10 @@ fn read_tokens(alloc: Global, text: &[u8]) -> Result<Statement, SyntaxFault>
 
 /// Adds the text of a statement at the end of `out`: keywords in upper case, one space between tokens,
 /// names and strings in `'`. After `Memory` nothing was added.
+///
+/// The statement is one that [`read`] can give.
 pub fn print(statement: &Statement, out: &mut Out) -> Result<(), Memory>
+    requires { IsReadable statement.now }
     ensures ok { OnOk result (out.new ≡ out.old ++ printed statement.now) }
     ensures err { OnErr result (out.new ≡ out.old) }
 {
