@@ -1,8 +1,8 @@
 //! Account statements as texts: `CREATE USER`, `ALTER USER`, `DROP USER`, `FLUSH PRIVILEGES`, `GRANT`
 //! and `REVOKE`, read and printed.
 //!
-//! **[`read`] gives the statement that a text is, or the place of the first token at which no
-//! statement fits. What [`print`] writes is a text of the statement.**
+//! **[`read`] gives the one statement that a text is, or the place of a token at which no statement
+//! fits, however the text goes on.** [`print`] writes a statement in one form.
 //!
 //! The grammar is a part of the one in the MySQL 8.0 Reference Manual, "Account Management
 //! Statements", with its tokens as in "String Literals" and "Schema Object Names". A text is first
