@@ -1,5 +1,5 @@
 -- What one more entry does to what a history determines.
-use Rattle.std.proofs.Common.{◌≡◌, refl, ap, sym, ◌∙◌, ℕ, max, List, [], ◌∷◌, ◌++◌, Bool, true, false, Option, Some, None, ◌==◌, eq-eqb}
+use Rattle.std.proofs.Common.{◌≡◌, refl, ap, ◌∙◌, ℕ, max, List, [], ◌∷◌, ◌++◌, false, Some, None, ◌==◌, eq-eqb}
 use Rattle.account_rules.specs.declared.accounts.Account.{Account}
 use Rattle.account_history.specs.declared.entries.Attempt.{Attempt}
 use Rattle.account_history.specs.declared.entries.Entry.{Entry}

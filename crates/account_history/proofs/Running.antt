@@ -1,12 +1,12 @@
 -- What one more step does to the failures that count: the count over the span as a running list.
-use Rattle.std.proofs.Common.{◌≡◌, refl, ap, sym, ◌∙◌, ℕ, List, [], ◌∷◌, ◌++◌, map, filter, Bool, true, false, not, ◌&&◌, ◌||◌, if◌then◌else◌, Option, Some, None}
+use Rattle.std.proofs.Common.{◌≡◌, refl, ap, ◌∙◌, ℕ, List, [], ◌∷◌, ◌++◌, map, filter, Bool, true, false, not, ◌&&◌, ◌||◌, if◌then◌else◌, Option, Some, None}
 use Rattle.std.specs.List.{list_any}
 use Rattle.std.proofs.lemmas.List.{append-nil, map-append}
 use Rattle.std.proofs.lemmas.List.Elements.{filter-append}
 use Rattle.std.proofs.lemmas.List.Folds.{list_any-append}
 use Rattle.login_lock.specs.declared.LockRule.{LockRule}
-use Rattle.login_lock.specs.Lock.{after, has_ended, is_blocked, is_over, locked_at, tracks}
-use Rattle.account_history.specs.Failures.{Step, after_last, failures_in, from_last, no_step, span}
+use Rattle.login_lock.specs.Lock.{after, is_blocked, is_over, locked_at, tracks}
+use Rattle.account_history.specs.Failures.{Step, after_last, failures_in, from_last, no_step}
 
 -- a test of a list with one element more
 any-more : (p : Step → Bool) (xs : List Step) (y : Step) → list_any p (xs ++ y ∷ []) ≡ (list_any p xs || p y)

@@ -1,6 +1,5 @@
 -- What each entry of a history is answered.
 use Rattle.std.specs.Prelude.{ℕ, max, List, [], ◌∷◌, find, Bool, true, false, if◌then◌else◌, Option, Some, None}
-use Rattle.lg_base.specs.declared.names.Name.{Name}
 use Rattle.factor_chain.specs.declared.credentials.InForce.{InForce}
 use Rattle.factor_chain.specs.declared.credentials.Look.{Look}
 use Rattle.factor_chain.specs.declared.credentials.PastRecord.{PastRecord}
@@ -13,7 +12,7 @@ use Rattle.account_rules.specs.declared.accounts.Account.{Account}
 use Rattle.account_rules.specs.declared.accounts.Settings.{Settings}
 use Rattle.account_rules.specs.declared.refusals.Rule.{Rule}
 use Rattle.account_rules.specs.declared.refusals.Rule.TheVariants as rule
-use Rattle.account_rules.specs.Refusals.{first_rule, is_expired, resumed}
+use Rattle.account_rules.specs.Refusals.{first_rule, is_expired}
 use Rattle.account_history.specs.declared.entries.Reply.{Reply}
 use Rattle.account_history.specs.declared.entries.Reply.TheVariants.{Opened, Sandbox, Blocked, Denied, Locked, MustChange}
 use Rattle.account_history.specs.declared.entries.Who.{Who}

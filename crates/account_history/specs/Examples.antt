@@ -1,5 +1,5 @@
 -- Worked examples of the rules: an account without a password, whose three failures lock it for a day.
-use Rattle.std.specs.Prelude.{◌≡◌, ℕ, Bool, true, false, List, [], ◌∷◌, None, codes}
+use Rattle.std.specs.Prelude.{◌≡◌, ℕ, true, false, List, [], ◌∷◌, None, codes}
 use Rattle.lg_base.specs.declared.names.Host.TheVariants as host
 use Rattle.factor_chain.specs.declared.credentials.Stored.TheVariants as stored
 use Rattle.factor_chain.specs.declared.credentials.Method.TheVariants as method
@@ -13,7 +13,6 @@ use Rattle.account_rules.specs.declared.accounts.Limit.TheVariants as limit
 use Rattle.account_history.specs.declared.entries.Entry.TheVariants.{Attempted}
 use Rattle.account_history.specs.declared.entries.Reply.{Reply}
 use Rattle.account_history.specs.declared.entries.Reply.TheVariants.{Opened, Sandbox, Blocked, Denied, MustChange}
-use Rattle.account_history.specs.declared.entries.Start.{Start}
 use Rattle.account_history.specs.Answers.{attempt_reply}
 use Rattle.account_history.specs.Histories.{History, From, ◌▹◌}
 

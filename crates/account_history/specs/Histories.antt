@@ -3,7 +3,7 @@
 -- A history is a start and the entries after it. It is written here by its newest entry, so that each
 -- definition says what an entry does after the history before it; `history` and `noted` tie this form to the
 -- list of entries, oldest first.
-use Rattle.std.specs.Prelude.{ℕ, max, List, [], ◌∷◌, ◌++◌, fold}
+use Rattle.std.specs.Prelude.{ℕ, max, List, [], ◌∷◌, ◌++◌}
 use Rattle.factor_chain.specs.declared.credentials.PastRecord.{PastRecord}
 use Rattle.account_rules.specs.declared.accounts.Account.{Account}
 use Rattle.account_history.specs.declared.entries.Entry.{Entry}

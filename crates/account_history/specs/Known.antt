@@ -1,6 +1,6 @@
 -- The digests that are known: MySQL client/server protocol, "Caching SHA-2 Pluggable Authentication", the
 -- server's cache of digests.
-use Rattle.std.specs.Prelude.{ℕ, List, Option, Some, None, option_map}
+use Rattle.std.specs.Prelude.{ℕ, List, Option, None, option_map}
 use Rattle.factor_chain.specs.declared.credentials.Credential.{Credential}
 use Rattle.factor_chain.specs.declared.credentials.Stored.{Stored}
 use Rattle.account_rules.specs.declared.accounts.Account.{Account}

@@ -9,7 +9,6 @@ use Rattle.lg_base.specs.declared.names.Host.{Host}
 use Rattle.lg_base.specs.declared.names.Host.TheVariants as host
 use Rattle.lg_base.specs.declared.names.Name.{Name}
 use Rattle.account_rules.specs.declared.accounts.Account.{Account}
-use Rattle.account_history.specs.declared.entries.Entry.{Entry}
 use Rattle.account_history.specs.declared.entries.Entry.TheVariants.{Observed, Attempted}
 use Rattle.account_history.specs.Histories.{History, From, ◌▹◌}
 

@@ -1,5 +1,5 @@
 -- Stamps: how often what a user logs in with has changed.
-use Rattle.std.specs.Prelude.{ℕ, ◌+◌, Bool, true, false, if◌then◌else◌, List}
+use Rattle.std.specs.Prelude.{ℕ, ◌+◌, Bool, false, if◌then◌else◌, List}
 use Rattle.account_history.specs.declared.entries.Entry.{Entry}
 use Rattle.account_history.specs.declared.entries.Entry.TheVariants.{Observed, Attempted}
 use Rattle.account_history.specs.Histories.{History, From, ◌▹◌}

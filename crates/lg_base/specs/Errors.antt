@@ -1,6 +1,6 @@
 -- What an error says: "Server Error Message Reference" of the MySQL error manual gives the numbers below
 -- 50000 and their states. The texts, and the numbers from 50001 on, are this project's own.
-use Rattle.std.specs.Prelude.{ℕ, Bool, true, false, List, [], ◌++◌, take, Option, Some, None, codes, decimal}
+use Rattle.std.specs.Prelude.{ℕ, true, false, List, [], ◌++◌, take, Option, Some, None, codes, decimal}
 use Rattle.lg_base.specs.declared.errors.Code.{Code}
 use Rattle.lg_base.specs.declared.errors.Code.TheVariants.{BadHandshake, Denied, UnknownCommand, Syntax, TooLarge, OutOfOrder, NeedCreateUser, NeedPasswordAdmin, Cannot, GrantCreates, NoMethod, Weak, Sandboxed, MustChange, Locked, Reused, Blocked, RetainEmpty, RetainMethod, PasswordForm, OutOfRange, HistoryFull, FactorNumber, NameLength, KeeperFault, LabelLength, VerifierFault}
 use Rattle.lg_base.specs.declared.errors.Operation.{Operation}

@@ -1,6 +1,6 @@
 //! Vectors from outside: bytes of the protocol's documentation, and the texts that people see.
 
-use crate::{Bytes, Code, Items, Operation, Out, ReadFault, Reader};
+use crate::{Bytes, Code, Host, Items, Name, Operation, Out, ReadFault, Reader};
 use std::process::Abort;
 use std::test::Fail;
 
@@ -85,11 +85,66 @@ fn length_encoded_integers_are_written_shortest(rt: HostRuntime) -> Result<(), F
 }
 
 #[test]
+fn what_is_written_can_be_cut_off(rt: HostRuntime) -> Result<(), Fail> {
+    let mut out = Out::new(rt.alloc());
+    out.bytes(b"abcde")?;
+    for (length, want) in [
+        (6, b"abcde".as_slice()),
+        (2, b"ab".as_slice()),
+        (0, b"".as_slice()),
+    ] {
+        out.truncate(length);
+        assert_eq!(rt; out.as_slice(), want);
+        let mut other = out.beside();
+        other.byte(b'x')?;
+        assert_eq!(rt; other.as_slice(), b"x".as_slice());
+        assert_eq!(rt; out.as_slice(), want);
+    }
+    let copied = Bytes::copy(out.allocator(), b"y")?;
+    assert_eq!(rt; copied.as_slice(), b"y".as_slice());
+    Ok(())
+}
+
+#[test]
 fn lists_keep_what_was_pushed(rt: HostRuntime) -> Result<(), Fail> {
     let mut items: Items<u16> = Items::new(rt.alloc());
+    assert!(rt; items.is_empty());
     items.push(7)?;
     items.push(9)?;
     assert_eq!(rt; items.as_slice(), [7, 9].as_slice());
+    assert_eq!(rt; items.len(), 2);
+    assert_eq!(rt; *items.get(1), 9);
+    let held = items.into_vec();
+    assert_eq!(rt; held.as_slice(), [7, 9].as_slice());
+    assert!(rt; !Items::from_vec(held).is_empty());
+    Ok(())
+}
+
+#[test]
+fn lists_of_bytes_are_equal_byte_by_byte(rt: HostRuntime) -> Result<(), Fail> {
+    for (text, other, equal) in [
+        (b"".as_slice(), b"".as_slice(), true),
+        (b"Ann".as_slice(), b"Ann".as_slice(), true),
+        (b"Ann".as_slice(), b"ann".as_slice(), false),
+        (b"Ann".as_slice(), b"An".as_slice(), false),
+        (b"".as_slice(), b"\x00".as_slice(), false),
+    ] {
+        let user = Bytes::copy(rt.alloc(), text)?;
+        assert_eq!(rt; user.as_slice(), text);
+        let held = Bytes::copy(rt.alloc(), other)?.into_vec();
+        assert_eq!(rt; held.as_slice(), other);
+        let other = Bytes::from_vec(held);
+        assert_eq!(rt; user == other, equal);
+        let host = Host::Any;
+        let name = Name { user, host };
+        let same = Name { user: other, host };
+        assert_eq!(rt; name == same, equal);
+        let local = Name {
+            user: same.user,
+            host: Host::Localhost,
+        };
+        assert!(rt; name != local);
+    }
     Ok(())
 }
 

@@ -23,3 +23,6 @@ fn main(rt: HostRuntime) -> io::Result<ExitCode> {
     let mut out = StdSink::new(rt.stdout());
     Ok(ExitCode::from(tool::run_tool(alloc, words.as_slice(), &mut input, &mut out)))
 }
+
+#[cfg(test)]
+mod tests;

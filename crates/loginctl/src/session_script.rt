@@ -93,10 +93,10 @@ fn packet_of(alloc: Global, line: &[u8]) -> Result<Option<Bytes>, Memory>
 
 /// Whether the lines that never differ are there, and nothing behind the last.
 #[tactic(auto, unfolding(crate::specs::Session::are_fixed_lines))]
-fn are_fixed(open: &[u8], run: &[u8], end: &[u8], last: &[u8]) -> bool
-    ensures { result ≡ are_fixed_lines «open».now run.now end.now last.now }
+fn are_fixed(session: &[u8], run: &[u8], end: &[u8], last: &[u8]) -> bool
+    ensures { result ≡ are_fixed_lines session.now run.now end.now last.now }
 {
-    open == b"open 1".as_slice()
+    session == b"open 1".as_slice()
         && run == b"run 1".as_slice()
         && end == b"end".as_slice()
         && last.is_empty()
