@@ -1,4 +1,5 @@
 pub mod Faults
+pub mod Keeping
 pub mod MemoryStreams
 pub mod Plan
 pub mod PlanOf

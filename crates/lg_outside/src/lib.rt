@@ -1,16 +1,19 @@
-//! The outside of the login server, as traits: where bytes come from and go to. Beside each trait stand
-//! its form in memory, which tells its content to contracts and fails at listed calls, and its adapter
-//! over the standard library, which tells nothing but its count of faults.
+//! The outside of the login server, as traits: where bytes come from and go to, and where rows are kept.
+//! Beside each trait of streams stand its form in memory, which tells its content to contracts and fails at
+//! listed calls, and its adapter over the standard library, which tells nothing but its count of faults.
+//! The forms of a keeper stand above.
 //!
 //! A call of the outside answers `Failed` only where the object's count of faults rose in that call, or
 //! stands at the end of its type. It stands on `lg_base` alone.
 #![tactic(auto)]
 
+pub mod keepers;
 pub mod memory_streams;
 pub mod planned_faults;
 pub mod standard_streams;
 pub mod streams;
 
+pub use keepers::{KeepFault, Keeper, Row};
 pub use memory_streams::{MemorySink, MemorySource};
 pub use planned_faults::PlannedFaults;
 pub use standard_streams::{StdSink, StdSource};
