@@ -1,14 +1,20 @@
 -- The rows of a keeper, as far as it tells them, and what a call does to them.
-use Rattle.std.specs.Prelude.{◌≡◌, ℕ, ◌<◌, List, ◌∷◌, ◌++◌, nat_lt, Option, Some, None, option_map, Result, Ok, Err}
-use Rattle.std.specs.List.{AllPairs, filter}
+use Rattle.std.specs.Prelude.{◌≡◌, ℕ, ◌<◌, List, [], ◌∷◌, ◌++◌, nat_lt, Option, Some, None, option_map, Result, Ok, Err}
+use Rattle.std.specs.List.{filter}
 use Rattle.lg_outside.specs.Faults.{Rose}
 use Rattle.lg_outside.specs.declared.keepers.Row.{Row}
 use Rattle.lg_outside.specs.declared.keepers.KeepFault.{KeepFault}
 use Rattle.lg_outside.specs.declared.keepers.KeepFault.TheVariants.{Failed, Memory}
 
+-- the keys rise from each row to the next, the first of them above a number
+abbrev pub RiseAbove : ℕ → List Row → Type 0
+RiseAbove low [] = Unit {0}
+RiseAbove low (row ∷ rows) = (low < row.key) × RiseAbove row.key rows
+
 -- the keys rise from each row to the next, so each stands once
 abbrev pub Ascend : List Row → Type 0
-Ascend rows = AllPairs (λ one later. one.key < later.key) rows
+Ascend [] = Unit {0}
+Ascend (row ∷ rows) = RiseAbove row.key rows
 
 abbrev pub rows_below : ℕ → List Row → List Row
 rows_below key rows = filter (λ row. nat_lt row.key key) rows
