@@ -61,7 +61,7 @@ there key (first ∷ rows) d h within same = ⊎_elim (passed (λ w e. there key
         let b = below_first key first rows lt in
         let a = not_above_first key first rows (omega (arith, lt)) in
         let rest = further (omega (arith, ap length b, within))
-            (subst (λ (n : ℕ). (slice_index_or (first ∷ rows) n d).key ≡ key) (ap length b) same) in
+        (subst (λ (n : ℕ). (slice_index_or (first ∷ rows) n d).key ≡ key) (ap length b) same) in
         (rest.0, around (first ∷ rows) _ (first ∷ rows_below key rows) _ (rows_above key rows) rest.0 b a (ap (λ (xs : List Row). first ∷ xs) rest.1))
 
     found : key ≤ first.key → (row : Row) × (first ∷ rows ≡ rows_below key (first ∷ rows) ++ row ∷ rows_above key (first ∷ rows))
@@ -84,14 +84,14 @@ absent key (first ∷ rows) d h other = ⊎_elim (passed (λ k. absent key rows 
         let b = below_first key first rows lt in
         let a = not_above_first key first rows (omega (arith, lt)) in
         let rest = further (λ within same. other (omega (arith, ap length b, within))
-            (subst (λ (n : ℕ). (slice_index_or (first ∷ rows) n d).key ≡ key) (sym (ap length b)) same)) in
+        (subst (λ (n : ℕ). (slice_index_or (first ∷ rows) n d).key ≡ key) (sym (ap length b)) same)) in
         beside (first ∷ rows) _ (first ∷ rows_below key rows) _ (rows_above key rows) b a (ap (λ (xs : List Row). first ∷ xs) rest)
 
     found : key ≤ first.key → first ∷ rows ≡ rows_below key (first ∷ rows) ++ rows_above key (first ∷ rows)
     found le =
         let b = not_below_first key first rows le ∙ below_none key first.key rows le h in
         let differs : first.key ≡ key → ⊥ = λ is. other (omega (arith, ap length b))
-            (subst (λ (n : ℕ). (slice_index_or (first ∷ rows) n d).key ≡ key) (sym (ap length b)) is) in
+        (subst (λ (n : ℕ). (slice_index_or (first ∷ rows) n d).key ≡ key) (sym (ap length b)) is) in
         let a = above_all key key (first ∷ rows) (omega arith) (⊎_elim (λ lt. (lt, h)) (λ ge. absurd (differs (omega (arith, ge)))) (cases_lt key first.key)) in
         beside (first ∷ rows) _ [] _ (first ∷ rows) b a refl
 

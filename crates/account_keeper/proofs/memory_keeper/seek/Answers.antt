@@ -10,8 +10,8 @@ returns-then-rows-place c =
 
 pub returns : goal.returns
 returns c = elim c.else-place-rows.branch [
-    else-place-rows-via-then-place-rows+else-rows-place w ↦
-        absent_at c.args.key c.place_of-place.result c.args.rows.now w.index-rows-place.result c.requires c.place_of-place.ensures w.if-rows-place.false
+  | else-place-rows-via-then-place-rows+else-rows-place w ↦
+      absent_at c.args.key c.place_of-place.result c.args.rows.now w.index-rows-place.result c.requires c.place_of-place.ensures w.if-rows-place.false
   | else-place-rows-via-else-place-rows w ↦
-        absent_behind c.args.key c.place_of-place.result c.args.rows.now c.requires c.place_of-place.ensures w.if-place-rows.false
+      absent_behind c.args.key c.place_of-place.result c.args.rows.now c.requires c.place_of-place.ensures w.if-place-rows.false
 ]
