@@ -1,6 +1,6 @@
 -- Where a row stands among rows that ascend, and what putting or removing it there makes of them.
-use Rattle.std.proofs.Common.{◌≡◌, ◌≢◌, Ok, Err, ℕ, suc, ◌+◌, ◌<◌, ◌≤◌, ◌⊎◌, inl, inr, ⊎_elim, Bool, true, false, List, [], ◌∷◌, ◌++◌, length, length-append, take, drop, nat_lt, slice_index_or, slice_set, cond, refl, sym, ap, ◌∙◌, subst, arith, rules}
-use Rattle.std.specs.List.{filter, insert, remove}
+use Rattle.std.proofs.Common.{◌≡◌, ◌≢◌, Ok, Err, ℕ, ◌<◌, ◌≤◌, ⊎_elim, true, false, List, [], ◌∷◌, ◌++◌, length, length-append, nat_lt, slice_index_or, slice_set, refl, sym, ap, ◌∙◌, subst, arith}
+use Rattle.std.specs.List.{insert, remove}
 use Rattle.std.proofs.lemmas.Bool.{cases_lt}
 use Rattle.account_keeper.specs.Shelf.{IsPlace}
 use Rattle.lg_outside.specs.Keeping.{Ascend, RiseAbove, rows_below, rows_above, put_row, remove_row}

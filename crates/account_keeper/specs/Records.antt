@@ -1,5 +1,5 @@
 -- Which bytes are the record of which account, under which key.
-use Rattle.std.specs.Prelude.{◌≡◌, ℕ, ◌≤◌, ◌^◌, List, Option, Some, None, option_map, Result, Ok, Err}
+use Rattle.std.specs.Prelude.{◌≡◌, ℕ, ◌≤◌, ◌^◌, List, Option, Some, None}
 use Rattle.factor_chain.specs.declared.credentials.Stored.{Stored}
 use Rattle.account_rules.specs.declared.accounts.Account.{Account}
 use Rattle.account_keeper.specs.Record.{FitsRecord, record_text}

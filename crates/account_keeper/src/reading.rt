@@ -3,10 +3,12 @@
 //! A record has one layout alone. So the fields are read first, leaving open what is out of range; then the
 //! account must fit the layout, and what is written of it must be the very bytes that were read.
 
-ghost use Rattle.account_keeper.specs.Record.{FitsRecord, record_text};
+ghost use Rattle.account_keeper.specs.Finding.{Finds, privileges_text};
+ghost use Rattle.account_keeper.specs.Record.{FitsRecord, LifetimeFits, LimitFits, LockTimeFits, counted_text, flag_byte, host_byte, lifetime_text, limit_text, lock_time_text, method_byte, record_text};
 ghost use Rattle.account_keeper.specs.Records.{HasNoId, HasNoIds, IsRecord};
 ghost use Rattle.account_keeper.specs.declared.reading.RecordFault.TheVariants as fault;
-ghost use Rattle.std.specs.Prelude.{◌≡◌, ◌↔◌, IfOk, IsTrue};
+ghost use Rattle.lg_base.specs.Fields.{little_text};
+ghost use Rattle.std.specs.Prelude.{◌≡◌, ◌<◌, ◌^◌, ◌↔◌, [], ◌∷◌, IfOk, IsTrue, length};
 
 use crate::fitting::fits_record;
 use crate::writing::write_record;
@@ -44,24 +46,49 @@ impl From<lg_base::Memory> for RecordFault {
     }
 }
 
-fn read_host(reader: &mut Reader) -> Result<Host, RecordFault> {
-    match reader.read_u8()? {
+/// One byte.
+#[tactic(auto, using(crate::proofs::Found::byte_found, crate::proofs::Found::byte_refused))]
+fn read_byte(reader: &mut Reader) -> Result<u8, RecordFault>
+    ensures { Finds (λ x. x) (λ b. b ∷ []) (λ _. Unit {0}) reader.old.rest reader.new.rest result }
+{
+    Ok(reader.read_u8()?)
+}
+
+/// A number in two bytes.
+#[tactic(auto, using(crate::proofs::Found::two_found, crate::proofs::Found::two_refused))]
+fn read_number(reader: &mut Reader) -> Result<u16, RecordFault>
+    ensures { Finds (λ x. x) (λ n. little_text 2 n) (λ n. n < 256 ^ 2) reader.old.rest reader.new.rest result }
+{
+    Ok(reader.read_u16()?)
+}
+
+#[tactic(auto, using(crate::proofs::Found::host_found))]
+fn read_host(reader: &mut Reader) -> Result<Host, RecordFault>
+    ensures { Finds (λ x. x) (λ host. host_byte host ∷ []) (λ _. Unit {0}) reader.old.rest reader.new.rest result }
+{
+    match read_byte(reader)? {
         0 => Ok(Host::Localhost),
         1 => Ok(Host::Any),
         _ => Err(RecordFault::Bad),
     }
 }
 
-fn read_method(reader: &mut Reader) -> Result<Method, RecordFault> {
-    match reader.read_u8()? {
+#[tactic(auto, using(crate::proofs::Found::method_found))]
+fn read_method(reader: &mut Reader) -> Result<Method, RecordFault>
+    ensures { Finds (λ x. x) (λ method. method_byte method ∷ []) (λ _. Unit {0}) reader.old.rest reader.new.rest result }
+{
+    match read_byte(reader)? {
         0 => Ok(Method::Native),
         1 => Ok(Method::CachingSha2),
         _ => Err(RecordFault::Bad),
     }
 }
 
-fn read_flag(reader: &mut Reader) -> Result<bool, RecordFault> {
-    match reader.read_u8()? {
+#[tactic(auto, using(crate::proofs::Found::flag_found))]
+fn read_flag(reader: &mut Reader) -> Result<bool, RecordFault>
+    ensures { Finds (λ x. x) (λ flag. flag_byte flag ∷ []) (λ _. Unit {0}) reader.old.rest reader.new.rest result }
+{
+    match read_byte(reader)? {
         0 => Ok(false),
         1 => Ok(true),
         _ => Err(RecordFault::Bad),
@@ -69,8 +96,11 @@ fn read_flag(reader: &mut Reader) -> Result<bool, RecordFault> {
 }
 
 /// The two privileges.
-fn read_privileges(reader: &mut Reader) -> Result<(bool, bool), RecordFault> {
-    match reader.read_u8()? {
+#[tactic(auto, using(crate::proofs::Found::privileges_found))]
+fn read_privileges(reader: &mut Reader) -> Result<(bool, bool), RecordFault>
+    ensures { Finds (λ x. (x.0, x.1)) privileges_text (λ _. Unit {0}) reader.old.rest reader.new.rest result }
+{
+    match read_byte(reader)? {
         0 => Ok((false, false)),
         1 => Ok((true, false)),
         2 => Ok((false, true)),
@@ -81,16 +111,26 @@ fn read_privileges(reader: &mut Reader) -> Result<(bool, bool), RecordFault> {
 
 /// A number in eight bytes.
 fn read_moment(reader: &mut Reader) -> Result<u64, RecordFault> {
-    match reader.take(8)? {
+    match read_bytes(8, reader)? {
         [a, b, c, d, e, f, g, h] => Ok(u64::from_le_bytes([*a, *b, *c, *d, *e, *f, *g, *h])),
         _ => Err(RecordFault::Bad),
     }
 }
 
+/// So many bytes.
+#[tactic(auto, using(crate::proofs::Found::bytes_found, crate::proofs::Found::bytes_refused))]
+fn read_bytes<'a>(size: u8, reader: &mut Reader<'a>) -> Result<&'a [u8], RecordFault>
+    ensures { Finds (λ x. x.now) (λ text. text) (λ text. length text ≡ size) reader.old.rest reader.new.rest result }
+{
+    Ok(reader.take(u64::from(size))?)
+}
+
 /// Bytes behind their length in one byte.
-fn read_counted(alloc: Global, reader: &mut Reader) -> Result<Bytes, RecordFault> {
-    let length = reader.read_u8()?;
-    let text = reader.take(u64::from(length))?;
+fn read_counted(alloc: Global, reader: &mut Reader) -> Result<Bytes, RecordFault>
+    ensures { Finds (λ x. x) counted_text (λ _. Unit {0}) reader.old.rest reader.new.rest result }
+{
+    let length = read_byte(reader)?;
+    let text = read_bytes(length, reader)?;
     Ok(Bytes::copy(alloc, text)?)
 }
 
@@ -136,26 +176,44 @@ fn read_labels(alloc: Global, reader: &mut Reader) -> Result<Items<Bytes>, Recor
     Ok(labels)
 }
 
-fn read_lifetime(reader: &mut Reader) -> Result<Lifetime, RecordFault> {
-    match reader.read_u8()? {
+#[tactic(auto, using(crate::proofs::Found::lifetime_parts, crate::proofs::Found::lifetime_found))]
+fn read_lifetime(reader: &mut Reader) -> Result<Lifetime, RecordFault>
+    ensures { Finds (λ x. x) lifetime_text LifetimeFits reader.old.rest reader.new.rest result }
+{
+    match read_byte(reader)? {
         0 => Ok(Lifetime::Default),
         1 => Ok(Lifetime::Never),
-        2 => Ok(Lifetime::Days(reader.read_u16()?)),
+        2 => match read_number(reader) {
+            Ok(days) => Ok(Lifetime::Days(days)),
+            Err(fault) => Err(fault),
+        },
         _ => Err(RecordFault::Bad),
     }
 }
 
-fn read_limit(reader: &mut Reader) -> Result<Limit, RecordFault> {
-    match reader.read_u8()? {
+#[tactic(auto, using(crate::proofs::Found::limit_parts, crate::proofs::Found::limit_found))]
+fn read_limit(reader: &mut Reader) -> Result<Limit, RecordFault>
+    ensures { Finds (λ x. x) limit_text (λ v. LimitFits 65535 v) reader.old.rest reader.new.rest result }
+{
+    match read_byte(reader)? {
         0 => Ok(Limit::Default),
-        1 => Ok(Limit::Count(reader.read_u16()?)),
+        1 => match read_number(reader) {
+            Ok(count) => Ok(Limit::Count(count)),
+            Err(fault) => Err(fault),
+        },
         _ => Err(RecordFault::Bad),
     }
 }
 
-fn read_lock_time(reader: &mut Reader) -> Result<LockTime, RecordFault> {
-    match reader.read_u8()? {
-        0 => Ok(LockTime::Days(reader.read_u16()?)),
+#[tactic(auto, using(crate::proofs::Found::lock_time_parts, crate::proofs::Found::lock_time_found))]
+fn read_lock_time(reader: &mut Reader) -> Result<LockTime, RecordFault>
+    ensures { Finds (λ x. x) lock_time_text LockTimeFits reader.old.rest reader.new.rest result }
+{
+    match read_byte(reader)? {
+        0 => match read_number(reader) {
+            Ok(days) => Ok(LockTime::Days(days)),
+            Err(fault) => Err(fault),
+        },
         1 => Ok(LockTime::Unbounded),
         _ => Err(RecordFault::Bad),
     }
@@ -180,7 +238,7 @@ struct Head {
 }
 
 fn read_head(alloc: Global, reader: &mut Reader) -> Result<Head, RecordFault> {
-    if reader.read_u8()? != 1 {
+    if read_byte(reader)? != 1 {
         return Err(RecordFault::Bad);
     }
     let user = read_counted(alloc, reader)?;

@@ -32,7 +32,7 @@ enum Outcome {
     NoMemory,
 }
 
-fn outcome(alloc: Global, key: u64, bytes: &[u8]) -> Outcome {
+fn read_again(alloc: Global, key: u64, bytes: &[u8]) -> Outcome {
     match read_record(alloc, key, bytes) {
         Ok(account) => {
             let mut out = Out::new(alloc);
@@ -74,7 +74,7 @@ fn check(
 ) -> Result<(), Fail> {
     let bytes = changed(rt.alloc(), from, to, parts)?;
     assert_eq!(rt;
-        outcome(rt.alloc(), 1, bytes.as_slice()),
+        read_again(rt.alloc(), 1, bytes.as_slice()),
         wanted,
         "{from} to {to}"
     );
@@ -83,13 +83,13 @@ fn check(
 
 #[test]
 fn the_root_record(rt: HostRuntime) -> Result<(), Fail> {
-    assert_eq!(rt; outcome(rt.alloc(), 1, &ROOT), Outcome::Same);
-    assert_eq!(rt; outcome(rt.alloc(), 1 << 62, &ROOT), Outcome::Same);
-    assert_eq!(rt; outcome(rt.alloc(), 0, &ROOT), Outcome::Bad);
-    assert_eq!(rt; outcome(rt.alloc(), (1 << 62) + 1, &ROOT), Outcome::Bad);
+    assert_eq!(rt; read_again(rt.alloc(), 1, &ROOT), Outcome::Same);
+    assert_eq!(rt; read_again(rt.alloc(), 1 << 62, &ROOT), Outcome::Same);
+    assert_eq!(rt; read_again(rt.alloc(), 0, &ROOT), Outcome::Bad);
+    assert_eq!(rt; read_again(rt.alloc(), (1 << 62) + 1, &ROOT), Outcome::Bad);
     for end in 0..32 {
         assert_eq!(rt;
-            outcome(rt.alloc(), 1, &ROOT[..end]),
+            read_again(rt.alloc(), 1, &ROOT[..end]),
             Outcome::Bad,
             "cut at {end}"
         );
@@ -230,9 +230,9 @@ fn full(alloc: Global, count: [u8; 2], past: usize) -> Result<Out, Fail> {
 #[test]
 fn the_longest_past(rt: HostRuntime) -> Result<(), Fail> {
     let most = full(rt.alloc(), [0, 1], 256)?;
-    assert_eq!(rt; outcome(rt.alloc(), 1, most.as_slice()), Outcome::Same);
+    assert_eq!(rt; read_again(rt.alloc(), 1, most.as_slice()), Outcome::Same);
     let over = full(rt.alloc(), [1, 1], 257)?;
-    assert_eq!(rt; outcome(rt.alloc(), 1, over.as_slice()), Outcome::Bad);
+    assert_eq!(rt; read_again(rt.alloc(), 1, over.as_slice()), Outcome::Bad);
     Ok(())
 }
 

@@ -1,4 +1,4 @@
-use Rattle.std.proofs.Common.{◌≡◌, List, Ok, sym, subst}
+use Rattle.std.proofs.Common.{List, Ok, sym, subst}
 use Rattle.lg_outside.specs.Keeping.{Ascend}
 use Rattle.lg_outside.specs.declared.keepers.Row.{Row}
 use Rattle.account_keeper.specs.Shelf.{IsPlace}

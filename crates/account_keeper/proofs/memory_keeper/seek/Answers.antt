@@ -1,4 +1,3 @@
-use Rattle.std.proofs.Common.{arith}
 use Rattle.account_keeper.proofs.RowLaws.{there_at, absent_at, absent_behind}
 use Rattle.account_keeper.proofs.memory_keeper.seek.Goals.{else-place-rows-via-then-place-rows+else-rows-place, else-place-rows-via-else-place-rows}
 use Rattle.account_keeper.proofs.memory_keeper.seek.Goals as goal
