@@ -332,8 +332,11 @@ fn is_record_of(alloc: Global, bytes: &[u8], account: &Account) -> Result<bool, 
     Ok(text.as_slice() == bytes)
 }
 
-/// Reads the record under a key, which is the account's id. A record holds no ids of credentials: they
-/// are 0.
+/// Reads the record under a key, which is the account's id, from 1 to 2 to the power of 62. A record holds
+/// no ids of credentials: they are 0.
+///
+/// What is read is proved to be the account whose record the bytes are. That each account's record is read is
+/// proved of its single fields, and tested as a whole.
 pub fn read_record(alloc: Global, key: u64, bytes: &[u8]) -> Result<Account, RecordFault>
     ensures found { IfOk result (λ account. IsRecord key account bytes.now) }
 {
