@@ -5,7 +5,8 @@ use Rattle.loginctl.specs.Replayed.{replay_text}
 use Rattle.loginctl.specs.Session.{IsOneSession, IsOnlySession}
 use Rattle.lg_outside.specs.Streams.{Adds}
 use Rattle.lg_outside.specs.declared.streams.Failed.{Failed}
-use Rattle.loginctl.specs.Tool.{Due, IsDue, Printed, Wrote, cut, not_built, replayed, refused, whole}
+use Rattle.loginctl.specs.Printing.{Printed, Wrote, cut, whole}
+use Rattle.loginctl.specs.Tool.{Due, IsDue, not_built, replayed, refused}
 use Rattle.loginctl.specs.declared.session_script.OneSession.{OneSession}
 
 pub due-session : (input : List ℕ) (session : OneSession) (text : List ℕ) → IsOnlySession input (Some session) → text ≡ replay_text session → IsDue input 0 text

@@ -1,3 +1,5 @@
 mod Sessions
 mod Greetings
 mod Dues
+mod Packets
+mod Told

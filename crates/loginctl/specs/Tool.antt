@@ -1,6 +1,8 @@
 -- What the words and the input of `loginctl` are answered.
 use Rattle.std.specs.Prelude.{◌≡◌, Bool, true, false, ℕ, List, [], ◌∷◌, ◌++◌, codes, take, Option, Some, None}
 use Rattle.std.specs.Str.{bytes_eq}
+use Rattle.loginctl.specs.Frames.{AnswersFrames}
+use Rattle.loginctl.specs.Printing.{Printed, Wrote}
 use Rattle.loginctl.specs.Replayed.{replay_text}
 use Rattle.loginctl.specs.Session.{IsOneSession}
 use Rattle.loginctl.specs.declared.session_script.OneSession.{OneSession}
@@ -9,6 +11,11 @@ use Rattle.loginctl.specs.declared.session_script.OneSession.{OneSession}
 abbrev pub is_replay_words : List (List ℕ) → Bool
 is_replay_words (word ∷ []) = bytes_eq word (codes "replay")
 is_replay_words _ = false
+
+-- the words are the one word `frames`
+abbrev pub is_frames_words : List (List ℕ) → Bool
+is_frames_words (word ∷ []) = bytes_eq word (codes "frames")
+is_frames_words _ = false
 
 -- the text for words of no form
 unfoldable pub usage_text : List ℕ
@@ -29,27 +36,15 @@ abbrev pub Due : Option (List ℕ) → ℕ → List ℕ → Type 0
 Due None status text = (input : List ℕ) × IsDue input status text
 Due (Some input) status text = IsDue input status text
 
--- a text was written, where the sink tells its bytes
-abbrev pub Wrote : Option (List ℕ) → Option (List ℕ) → List ℕ → Type 0
-Wrote None after text = after ≡ None
-Wrote (Some before) after text = after ≡ Some (before ++ text)
-
--- the beginning of a text was written
-abbrev pub WrotePart : Option (List ℕ) → Option (List ℕ) → List ℕ → Type 0
-WrotePart None after text = after ≡ None
-WrotePart (Some before) after text = (count : ℕ) × (after ≡ Some (before ++ take count text))
-
--- a text was printed and the status that was due is answered, or the sink failed, which is 5
-pub data Printed (before after : Option (List ℕ)) (SinkRose : Type 0) (status : ℕ) (text : List ℕ) : ℕ → Type 0 where
-  whole : Wrote before after text → Printed before after SinkRose status text status
-  cut : SinkRose → WrotePart before after text → Printed before after SinkRose status text 5
-
 -- What a run answers, by its words, the bytes that the source told, what was written before and after, and whether
 -- the counts of faults rose.
 pub data Answers (words : List (List ℕ)) (left before after : Option (List ℕ)) (SourceRose SinkRose : Type 0) : ℕ → Type 0 where
   -- the words are of no form
-  usage : (result : ℕ) → is_replay_words words ≡ false → Printed before after SinkRose 2 usage_text result → Answers words left before after SourceRose SinkRose result
-  -- the input was read to its end, or past the limit
+  usage : (result : ℕ) → is_replay_words words ≡ false → is_frames_words words ≡ false → Printed before after SinkRose 2 usage_text result → Answers words left before after SourceRose SinkRose result
+  -- packets are listed
+  frames : (result : ℕ) → is_frames_words words ≡ true → AnswersFrames left before after SourceRose SinkRose result
+      → Answers words left before after SourceRose SinkRose result
+  -- the script was read to its end, or past the limit
   ran : (result status : ℕ) (text : List ℕ) → is_replay_words words ≡ true → Due left status text
       → Printed before after SinkRose status text result → Answers words left before after SourceRose SinkRose result
   -- the source failed

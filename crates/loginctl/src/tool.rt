@@ -1,10 +1,12 @@
 //! The command line of `loginctl`: what each form of its words does, and the status that it ends with.
 
 ghost use Rattle.lg_outside.specs.Faults.{Rose};
-ghost use Rattle.loginctl.specs.Tool.{Answers, IsDue, Printed, is_replay_words, not_built, usage_text};
+ghost use Rattle.loginctl.specs.Tool.{Answers, IsDue, is_frames_words, is_replay_words, not_built, usage_text};
 ghost use Rattle.std.specs.Prelude.{◌≡◌, ◌≤◌, IfOk, map, string_bytes};
 
+use crate::frames::print_frames;
 use crate::input::{ReadEnd, read_all};
+use crate::printing::print;
 use crate::replay::replayed;
 use crate::session_script::{LONGEST_SCRIPT, read_session};
 use lg_base::{Memory, Out};
@@ -17,6 +19,16 @@ fn is_replay(words: &[String]) -> bool
 {
     match words {
         [word] => word.as_bytes() == b"replay".as_slice(),
+        _ => false,
+    }
+}
+
+/// Whether the words are the one word `frames`.
+fn is_frames(words: &[String]) -> bool
+    ensures { result ≡ is_frames_words (map string_bytes words.now) }
+{
+    match words {
+        [word] => word.as_bytes() == b"frames".as_slice(),
         _ => false,
     }
 }
@@ -61,22 +73,13 @@ fn not_built_line(alloc: Global) -> Result<Out, Memory>
     Ok(text)
 }
 
-/// Prints a text, and answers the status that is due, or 5 where the sink fails.
-fn print<W: Sink>(out: &mut W, text: &[u8], status: u8) -> u8
-    ensures printed { Printed (W.written out.old) (W.written out.new) (Rose (W.fault_count out.old) (W.fault_count out.new)) status text.now result }
-    ensures rising { W.fault_count out.old ≤ W.fault_count out.new }
-{
-    match out.write_all(text) {
-        Ok(()) => status,
-        Err(_) => 5,
-    }
-}
-
 /// Does what the words say, and answers the status of the program.
 ///
 /// For `replay` the input is a script of one native session, and the lines that are printed are those of the
-/// session: status 0. Any other input prints one line: 3. Words of no form print the usage: 2. A source that
-/// fails gives 4, a sink that fails 5, and want of memory 6.
+/// session: status 0. Any other input prints one line: 3. For `frames` the input is a stream of packets, each
+/// of which prints a line. A last line says how the stream ended: after a packet, 0, or at a place where it
+/// is no packet or too long, 3. Words of no form print the usage: 2. A source that fails gives 4, a sink that
+/// fails 5, and want of memory 6.
 pub fn run_tool<S: Source, W: Sink>(
     alloc: Global,
     words: &[String],
@@ -88,6 +91,9 @@ pub fn run_tool<S: Source, W: Sink>(
     ensures input { S.fault_count input.old ≤ S.fault_count input.new }
     ensures out { W.fault_count out.old ≤ W.fault_count out.new }
 {
+    if is_frames(words) {
+        return print_frames(alloc, input, out);
+    }
     if !is_replay(words) {
         return print(out, usage(), 2);
     }

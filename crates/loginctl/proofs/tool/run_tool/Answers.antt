@@ -1,11 +1,14 @@
 use Rattle.std.proofs.Common.{◌≡◌, ap, sym, ◌∙◌, List, ℕ, subst}
 use Rattle.loginctl.proofs.Dues.{due-told, printed-as, wrote-nothing}
-use Rattle.loginctl.specs.Tool.{Due, IsDue, no_memory, ran, source_fault, usage}
+use Rattle.loginctl.specs.Tool.{Due, IsDue, frames, no_memory, ran, source_fault, usage}
 use Rattle.loginctl.proofs.tool.run_tool.Goals as goal
+
+pub returns-then-is_frames-clause-answer : goal.returns-then-is_frames-clause-answer
+returns-then-is_frames-clause-answer g c = frames c.print_frames.result (sym c.is_frames.ensures ∙ c.if-is_frames.true) c.print_frames.ensures.answer
 
 pub returns-then-not-is_replay-clause-answer : goal.returns-then-not-is_replay-clause-answer
 returns-then-not-is_replay-clause-answer g c =
-    usage c.print.result (sym c.is_replay.ensures ∙ c.if-not-is_replay.true)
+    usage c.print.result (sym c.is_replay.ensures ∙ c.if-not-is_replay.true) (sym c.is_frames.ensures ∙ c.if-is_frames.false)
     (printed-as _ _ _ 2 _ _ c.print.result c.usage.ensures c.print.ensures.printed)
 
 pub returns-in-Err-Fault-clause-answer : goal.returns-in-Err-Fault-clause-answer

@@ -1,5 +1,5 @@
 use Rattle.loginctl.proofs.Dues.{printed-cut, printed-whole}
-use Rattle.loginctl.proofs.tool.print.Goals as goal
+use Rattle.loginctl.proofs.printing.print.Goals as goal
 
 pub returns-in-Ok-clause-printed : goal.returns-in-Ok-clause-printed
 returns-in-Ok-clause-printed g c =

@@ -1,0 +1,18 @@
+//! Printing to a sink.
+
+ghost use Rattle.lg_outside.specs.Faults.{Rose};
+ghost use Rattle.loginctl.specs.Printing.{Printed};
+ghost use Rattle.std.specs.Prelude.{◌≤◌};
+
+use lg_outside::Sink;
+
+/// Prints a text, and answers the status that is due, or 5 where the sink fails.
+pub fn print<W: Sink>(out: &mut W, text: &[u8], status: u8) -> u8
+    ensures printed { Printed (W.written out.old) (W.written out.new) (Rose (W.fault_count out.old) (W.fault_count out.new)) status text.now result }
+    ensures rising { W.fault_count out.old ≤ W.fault_count out.new }
+{
+    match out.write_all(text) {
+        Ok(()) => status,
+        Err(_) => 5,
+    }
+}
