@@ -12,3 +12,5 @@ test:
 bench:
 	@cd crates/crypt_probe && rt run < /dev/null
 	@bench/crypt
+	@cd crates/loginctl && rt run -- frames < /dev/null
+	@bench/frames
