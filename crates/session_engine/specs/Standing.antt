@@ -1,0 +1,44 @@
+-- The talk that each phase of a session stands for.
+use Rattle.std.specs.Prelude.{◌≡◌, ℕ, zero, suc, Bool, true, false, List, Option}
+use Rattle.factor_chain.specs.CheckedOf.{CheckedOf}
+use Rattle.session_engine.specs.declared.phases.Phase.{Phase}
+use Rattle.session_engine.specs.declared.phases.Phase.TheVariants as phase
+use Rattle.session_engine.specs.declared.session.Session.{Session}
+use Rattle.session_engine.specs.declared.steps.Step.{Step}
+use Rattle.session_talk.specs.declared.ends.SessionEnd.TheVariants as end
+use Rattle.session_talk.specs.Logins as login
+use Rattle.session_talk.specs.Talk.{Talk, Over}
+use Rattle.session_talk.specs.Turns.{question, rest, said}
+
+-- the talk at the question that was asked
+unfoldable pub talk_of : Phase → Talk
+talk_of (phase.Fresh id) = login.session id
+talk_of (phase.Greeted nonce) = login.greeted nonce
+talk_of (phase.Looking a claim) = login.looking a claim
+talk_of (phase.Switching a look) = login.switching a look
+talk_of (phase.Switched a look nonce) = login.switched a look nonce
+talk_of (phase.Clearing a look) = login.clearing a look
+talk_of (phase.Checking a again look evidences) = login.checking again a look.value evidences.value
+talk_of (phase.Settling a again checked) = login.settling again a checked.value
+talk_of (phase.Renewing a evidences) = login.renewing a evidences
+talk_of (phase.Locking a evidences) = login.locking a evidences.value
+talk_of (phase.Commanding left) = login.commands left
+talk_of (phase.Over how) = Over how
+
+-- a step does what a talk says, up to its next question
+pub record Stands (step : Step) (t : Talk) : Type 0 where
+  pub sends : step.send ≡ said t
+  pub asks : step.ask ≡ question (rest t)
+  pub goes_on : talk_of step.phase ≡ rest t
+
+-- the talk that a session stands for
+abbrev pub talk_of_session : Session → Talk
+talk_of_session session = talk_of session.phase
+
+-- the sequence id of a session's next packet
+abbrev pub next_of : Session → ℕ
+next_of session = session.next
+
+-- for want of memory
+abbrev pub HasFailed : Session → Type 0
+HasFailed session = talk_of session.phase ≡ Over end.Memory

@@ -1,0 +1,216 @@
+-- A session, part by part: MySQL client/server protocol, "Connection Phase" with its plugins
+-- mysql_native_password and caching_sha2_password, and "Command Phase".
+use Rattle.std.specs.Prelude.{ℕ, zero, suc, Bool, true, false, if◌then◌else◌, List, [], ◌∷◌, Option, Some, None, Result, Ok, Err}
+use Rattle.std.specs.Str.{bytes_eq}
+use Rattle.lg_base.specs.declared.errors.Code.{Code}
+use Rattle.lg_base.specs.declared.errors.Code.TheVariants as code
+use Rattle.lg_base.specs.Errors.{number_of}
+use Rattle.login_lock.specs.declared.LockRule.{LockRule}
+use Rattle.factor_chain.specs.CheckedOf.{CheckedOf}
+use Rattle.factor_chain.specs.Checking.{known_fits_of}
+use Rattle.factor_chain.specs.declared.credentials.InForce.{InForce}
+use Rattle.factor_chain.specs.declared.credentials.Look.{Look}
+use Rattle.factor_chain.specs.declared.credentials.Method.{Method}
+use Rattle.factor_chain.specs.declared.credentials.Method.TheVariants.{Native, CachingSha2}
+use Rattle.factor_chain.specs.declared.evidence_list.Evidence.{Evidence}
+use Rattle.factor_chain.specs.declared.evidence_list.Evidence.TheVariants as evidence
+use Rattle.account_history.specs.declared.entries.Reply.{Reply}
+use Rattle.account_history.specs.declared.entries.Reply.TheVariants.{Opened, Sandbox, Blocked, Denied, Locked, MustChange}
+use Rattle.account_history.specs.declared.entries.Who.{Who}
+use Rattle.account_history.specs.declared.entries.Who.TheVariants.{Login}
+use Rattle.wire_form.specs.Payloads.{start}
+use Rattle.auth_packets.specs.Commands.{command}
+use Rattle.auth_packets.specs.Handshake.{response}
+use Rattle.auth_packets.specs.declared.commands.Command.{Command}
+use Rattle.auth_packets.specs.declared.commands.Command.TheVariants.{Quit, Query, Ping, Reset, ChangeUser as Change, Other, Nothing}
+use Rattle.auth_packets.specs.declared.handshake.Response.{Response}
+use Rattle.session_talk.specs.declared.attempts.Attempting.{Attempting}
+use Rattle.session_talk.specs.declared.attempts.Claim.{Claim}
+use Rattle.session_talk.specs.declared.ends.SessionEnd.{SessionEnd}
+use Rattle.session_talk.specs.declared.ends.SessionEnd.TheVariants as end
+use Rattle.session_talk.specs.Talk.{Talk, Says, Hears, Draws, Looks, Checks, Settles, SettlesLocked, Over}
+use Rattle.session_talk.specs.Texts.{days_of, error_payload, fast_payload, full_payload, greeting_payload, method_name, ok_payload, switch_payload}
+
+-- ## Ends
+
+-- an error is sent, and the session ends
+abbrev pub closing : Code → SessionEnd → Talk
+closing error how = Says (error_payload error) (Over how)
+
+-- the peer broke the protocol at a place
+abbrev pub broken : Code → ℕ → Talk
+broken error at = closing error (end.Bad (number_of error) at)
+
+-- ## Commands
+
+-- a session that says that all went well, or an error, and goes on
+abbrev pub done : Talk → Talk
+done next = Says ok_payload next
+
+-- a command and what follows it: COM_QUIT ends the session, COM_PING and COM_RESET_CONNECTION change nothing, and
+-- no other command is known
+abbrev pub commanded : Result Command ℕ → Talk → Talk
+commanded (Ok Quit) next = Over end.Quit
+commanded (Ok Ping) next = done next
+commanded (Ok Reset) next = done next
+commanded (Ok (Query text)) next = Says (error_payload code.UnknownCommand) next
+commanded (Ok (Change v)) next = Says (error_payload code.UnknownCommand) next
+commanded (Ok (Other first)) next = Says (error_payload code.UnknownCommand) next
+commanded (Ok Nothing) next = Says (error_payload code.UnknownCommand) next
+commanded (Err at) next = Says (error_payload code.UnknownCommand) next
+
+-- a payload that is read as a command: so many are still done, and at the one after them the session ends
+unfoldable pub next_command : (left : ℕ) → List ℕ → Talk
+next_command zero payload = Over end.SessionLong
+next_command (suc left) payload = commanded (command.read (start payload)) (Hears true (next_command left))
+
+abbrev pub commands : (left : ℕ) → Talk
+commands left = Hears true (next_command left)
+
+-- of a session's commands the 1,048,576th isn't done
+abbrev pub all_commands : ℕ
+all_commands = 1048575
+
+-- ## The reply to an attempt
+
+-- the error that names the rule by which an attempt of a user was refused
+abbrev pub refusal_of : List ℕ → Reply → Option Code
+refusal_of user (Opened account host) = None
+refusal_of user (Sandbox account host) = None
+refusal_of user (Blocked rule left) = Some (code.Blocked user (days_of rule.time) left rule.attempts)
+refusal_of user (Denied using_password) = Some (code.Denied user using_password)
+refusal_of user Locked = Some (code.Locked user)
+refusal_of user MustChange = Some code.MustChange
+
+abbrev pub answered : Option Code → Talk
+answered None = done (commands all_commands)
+answered (Some error) = closing error (end.Refused (number_of error))
+
+-- a session opens, or the refusal is told and it ends
+abbrev pub outcome : List ℕ → Reply → Talk
+outcome user reply = answered (refusal_of user reply)
+
+-- ## Settling
+
+-- after a second stale answer the evidence is checked in the same step
+abbrev pub locking : Attempting → List Evidence → Talk
+locking a evidences = SettlesLocked a.user evidences a.flags (outcome a.user)
+
+-- evidence that was checked is settled; a stale answer goes on otherwise
+abbrev pub settling_or : Talk → Attempting → CheckedOf → Talk
+settling_or stale a checked = Settles checked a.flags stale (outcome a.user)
+
+abbrev pub checking_or : Talk → Attempting → Look → List Evidence → Talk
+checking_or stale a look evidences =
+    Checks look evidences (settling_or stale a (record { look = look; evidences = evidences }))
+
+-- after a first stale answer the account is looked at again, and nothing is asked of the client
+abbrev pub renewing : Attempting → List Evidence → Talk
+renewing a evidences = Looks true (Login a.user) (λ look. checking_or (locking a evidences) a look evidences)
+
+-- what follows a stale answer, the first one or the second
+abbrev pub after_stale : (again : Bool) → Attempting → List Evidence → Talk
+after_stale false a evidences = renewing a evidences
+after_stale true a evidences = locking a evidences
+
+-- evidence on a look is checked, and then settled
+abbrev pub checking : (again : Bool) → Attempting → Look → List Evidence → Talk
+checking again a look evidences = checking_or (after_stale again a evidences) a look evidences
+
+abbrev pub settling : (again : Bool) → Attempting → CheckedOf → Talk
+settling again a checked = settling_or (after_stale again a checked.evidences) a checked
+
+-- ## The first factor
+
+-- the method of the account that the look shows, or caching_sha2_password where there is none
+abbrev pub method_in : Option InForce → Method
+method_in None = CachingSha2
+method_in (Some account) = account.method
+
+abbrev pub method_of : Look → Method
+method_of look = method_in look.in_force
+
+-- no password was used: the answer is empty or one byte 00
+abbrev pub is_blank : List ℕ → Bool
+is_blank [] = true
+is_blank (zero ∷ []) = true
+is_blank (suc _ ∷ []) = false
+is_blank (_ ∷ _ ∷ _) = false
+
+-- a text without one last 00
+abbrev pub without_zero : List ℕ → List ℕ
+without_zero [] = []
+without_zero (zero ∷ []) = []
+without_zero (suc b ∷ []) = suc b ∷ []
+without_zero (b ∷ c ∷ bytes) = b ∷ without_zero (c ∷ bytes)
+
+-- a password in the clear
+abbrev pub clear_evidence : List ℕ → Evidence
+clear_evidence [] = evidence.Empty
+clear_evidence (b ∷ bytes) = evidence.Full (b ∷ bytes)
+
+-- one piece of evidence on the first look
+abbrev pub proved : Attempting → Look → Evidence → Talk
+proved a look given = checking false a look (given ∷ [])
+
+-- the password in the clear
+abbrev pub clearing : Attempting → Look → Talk
+clearing a look = Hears false (λ text. proved a look (clear_evidence (without_zero text)))
+
+-- an answer of caching_sha2_password: it fits a digest that the look shows, or the password is asked for
+abbrev pub caching : Attempting → Look → (nonce answer : List ℕ) → (known : Bool) → Talk
+caching a look nonce answer true = Says fast_payload (proved a look (evidence.Fast nonce answer))
+caching a look nonce answer false = Says full_payload (clearing a look)
+
+abbrev pub proving : Attempting → Look → (nonce answer : List ℕ) → Method → Talk
+proving a look nonce answer Native = proved a look (evidence.Native nonce answer)
+proving a look nonce answer CachingSha2 = caching a look nonce answer (known_fits_of look.in_force nonce answer)
+
+-- the answer to a nonce
+abbrev pub answering : Attempting → Look → (nonce answer : List ℕ) → (blank : Bool) → Talk
+answering a look nonce answer true = proved a look evidence.Empty
+answering a look nonce answer false = proving a look nonce answer (method_of look)
+
+abbrev pub answer : Attempting → Look → (nonce answer : List ℕ) → Talk
+answer a look nonce bytes = answering a look nonce bytes (is_blank bytes)
+
+-- a client that named another method is told to switch, and answers to a fresh nonce
+abbrev pub switched : Attempting → Look → (nonce : List ℕ) → Talk
+switched a look nonce = Hears false (λ bytes. answer a look nonce bytes)
+
+abbrev pub switching : Attempting → Look → Talk
+switching a look = Draws false (λ nonce. Says (switch_payload (method_of look) nonce) (switched a look nonce))
+
+-- the client named the method of the account that the look shows, or another
+abbrev pub is_named : Claim → Look → Bool
+is_named claim look = bytes_eq claim.plugin (method_name (method_of look))
+
+abbrev pub claimed : Attempting → Claim → Look → (named : Bool) → Talk
+claimed a claim look true = answer a look claim.nonce claim.auth
+claimed a claim look false = switching a look
+
+-- ## The session
+
+abbrev pub looking : Attempting → Claim → Talk
+looking a claim = Looks false (Login a.user) (λ look. claimed a claim look (is_named claim look))
+
+abbrev pub attempt_of : Response → Attempting
+attempt_of r = record { user = r.user; flags = r.flags }
+
+abbrev pub claim_of : (nonce : List ℕ) → Response → Claim
+claim_of nonce r = record { nonce = nonce; plugin = r.plugin; auth = r.auth }
+
+-- the client's response to the greeting
+abbrev pub responded : (nonce : List ℕ) → Result Response ℕ → Talk
+responded nonce (Ok r) = looking (attempt_of r) (claim_of nonce r)
+responded nonce (Err at) = broken code.BadHandshake at
+
+abbrev pub greeted : (nonce : List ℕ) → Talk
+greeted nonce = Hears false (λ payload. responded nonce (response.read (start payload)))
+
+abbrev pub greeting : (id : ℕ) → (nonce : List ℕ) → Talk
+greeting id nonce = Says (greeting_payload id nonce) (greeted nonce)
+
+-- a whole session
+abbrev pub session : (id : ℕ) → Talk
+session id = Draws true (greeting id)
