@@ -1,1 +1,6 @@
 pub mod Reading
+pub mod GoingOn
+pub mod OverBytes
+pub mod Conversing
+pub mod Settled
+pub mod Running

@@ -133,9 +133,11 @@ pub record Conversation (id : ℕ) (moves : List Move) (reply : Reply) : Type 0 
   pub exchanged : IsExchange said look exchange
   pub proved : IsProof look (nonce_in nonce exchange) (answer_in said exchange) proof
   pub laid_out : moves ≡
-      greeting_moves id nonce payload ++ Looked (Login said.user) look ∷ exchange_moves look exchange ++ proof_moves proof
-      ++ settling_moves said.user look (evidence_in (nonce_in nonce exchange) (answer_in said exchange) proof ∷ []) said.flags settling reply
-      ++ Sent (last_payload (refusal_of said.user reply)) ∷ []
+      greeting_moves id nonce payload
+      ++ (Looked (Login said.user) look ∷ (exchange_moves look exchange
+      ++ (proof_moves proof
+      ++ (settling_moves said.user look (evidence_in (nonce_in nonce exchange) (answer_in said exchange) proof ∷ []) said.flags settling reply
+      ++ Sent (last_payload (refusal_of said.user reply)) ∷ []))))
 
 -- ## The moves of a talk
 

@@ -5,3 +5,5 @@ pub mod Turns
 pub mod Owed
 pub mod Wired
 pub mod Conversation
+pub mod Laws
+pub mod Runs

@@ -9,7 +9,9 @@ use lg_base::{Bytes, Items};
 #[derive(Debug, Drop)]
 pub enum Ask {
     /// A packet whose sequence id is `want`.
-    Read { want: u8 },
+    Read {
+        want: u8,
+    },
     /// A fresh nonce.
     Draw,
     /// A look at an account.
@@ -17,9 +19,15 @@ pub enum Ask {
     /// The look once more, after a stale answer.
     Renew(Who),
     /// The check of evidence on a look.
-    Check { look: Look, evidences: Evidences },
+    Check {
+        look: Look,
+        evidences: Evidences,
+    },
     /// The settling of an attempt.
-    Settle { checked: Checked, flags: u32 },
+    Settle {
+        checked: Checked,
+        flags: u32,
+    },
     /// The settling of an attempt whose evidence is checked in the same step.
     SettleLocked {
         user: Bytes,

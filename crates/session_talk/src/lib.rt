@@ -13,6 +13,7 @@ pub mod actions;
 pub mod attempts;
 pub mod ends;
 pub mod inputs;
+pub mod laws;
 
 pub use actions::{Action, Ask};
 pub use attempts::{Attempting, Claim};

@@ -1,0 +1,72 @@
+-- What a session says over a list of inputs, turn by turn.
+use Rattle.std.specs.Prelude.{◌≡◌, ℕ, true, List, [], ◌∷◌, ◌++◌, IsTrue}
+use Rattle.packet_frame.specs.declared.packets.Packet.{Packet}
+use Rattle.session_talk.specs.declared.inputs.Input.{Input}
+use Rattle.session_talk.specs.declared.inputs.Input.TheVariants as input
+use Rattle.session_talk.specs.Owed.{Own, Drew, Saw, Late, Did, Sent}
+use Rattle.session_talk.specs.Talk.{Talk, Over}
+use Rattle.session_talk.specs.Turns.{IsAsked, first_id, heard, id_behind, id_behind_all, is_answer, rest, said}
+
+-- payloads with their ids, where the first one has an id
+abbrev pub sent_from : (first : ℕ) → List (List ℕ) → List Sent
+sent_from first [] = []
+sent_from first (payload ∷ payloads) = record { first = first; payload = payload } ∷ sent_from (id_behind first payload) payloads
+
+-- a talk at its question, and the id of the next packet
+pub record Standing : Type 0 where
+  pub next : ℕ
+  pub at : Talk
+
+-- the payloads of one turn
+abbrev pub sent_on : Standing → Input → List Sent
+sent_on s given = sent_from (first_id s.next s.at given) (said (heard s.at given))
+
+-- where the session stands after it
+abbrev pub stands_on : Standing → Input → Standing
+stands_on s given = record {
+  next = id_behind_all (first_id s.next s.at given) (said (heard s.at given));
+  at = rest (heard s.at given);
+}
+
+-- the payloads of all turns
+abbrev pub spoken : Standing → List Input → List Sent
+spoken s [] = []
+spoken s (given ∷ inputs) = sent_on s given ++ spoken (stands_on s given) inputs
+
+abbrev pub stands_after : Standing → List Input → Standing
+stands_after s [] = s
+stands_after s (given ∷ inputs) = stands_after (stands_on s given) inputs
+
+-- an input after which a session may go on: none by which reading ended
+abbrev pub IsOpen : Input → Type 0
+IsOpen (input.Frame fault) = ⊥
+IsOpen (input.End cut) = ⊥
+IsOpen input.LinkFailed = ⊥
+IsOpen _ = Unit {0}
+
+-- the session hasn't ended
+abbrev pub IsLive : Talk → Type 0
+IsLive (Over how) = ⊥
+IsLive t = Unit {0}
+
+-- each input answers what was asked last
+abbrev pub AllAnswer : Standing → List Input → Type 0
+AllAnswer s [] = Unit {0}
+AllAnswer s (given ∷ inputs) =
+    IsOpen given × IsLive s.at × IsTrue (is_answer s.at given) × IsAsked s.at given × AllAnswer (stands_on s given) inputs
+
+-- the packets among the inputs
+abbrev pub packets_in : List Input → List Packet
+packets_in [] = []
+packets_in (input.Packet packet ∷ inputs) = packet ∷ packets_in inputs
+packets_in (_ ∷ inputs) = packets_in inputs
+
+-- and what the server's side was answered. What a check finds is no answer of its own.
+abbrev pub owns_in : List Input → List Own
+owns_in [] = []
+owns_in (input.Start nonce ∷ inputs) = Drew nonce ∷ owns_in inputs
+owns_in (input.Drawn nonce ∷ inputs) = Drew nonce ∷ owns_in inputs
+owns_in (input.Looked look ∷ inputs) = Saw look ∷ owns_in inputs
+owns_in (input.Stale evidences ∷ inputs) = Late ∷ owns_in inputs
+owns_in (input.Settled reply ∷ inputs) = Did reply ∷ owns_in inputs
+owns_in (_ ∷ inputs) = owns_in inputs

@@ -1,0 +1,25 @@
+//! Laws of the model. Each function does nothing: its contract is the law.
+
+ghost use Rattle.session_talk.specs.Laws.{ConversationsAreRuns, OwedGoesOn, RunsAreOwed, StaleChangesNothing, WiredGoesOn};
+
+/// What is owed goes on with further packets and answers, and over bytes however they are cut.
+pub fn what_is_owed_goes_on()
+    ensures packets { OwedGoesOn }
+    ensures bytes { WiredGoesOn }
+{}
+
+/// Over any inputs that answer what was asked, a session sends what is owed for them.
+pub fn runs_are_owed()
+    ensures { RunsAreOwed }
+{}
+
+/// An attempt is a conversation exactly where it is the beginning of a session that ends in a settling and in what is
+/// sent because of it.
+pub fn conversations_are_runs()
+    ensures { ConversationsAreRuns }
+{}
+
+/// A stale answer changes nothing of what is sent.
+pub fn stale_changes_nothing()
+    ensures { StaleChangesNothing }
+{}
