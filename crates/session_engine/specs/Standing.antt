@@ -8,7 +8,7 @@ use Rattle.session_engine.specs.declared.steps.Step.{Step}
 use Rattle.session_talk.specs.declared.ends.SessionEnd.TheVariants as end
 use Rattle.session_talk.specs.Logins as login
 use Rattle.session_talk.specs.Talk.{Talk, Over}
-use Rattle.session_talk.specs.Turns.{question, rest, said}
+use Rattle.session_talk.specs.Turns.{IsBegun, question, rest, said}
 
 -- the talk at the question that was asked
 unfoldable pub talk_of : Phase → Talk
@@ -30,6 +30,7 @@ pub record Stands (step : Step) (t : Talk) : Type 0 where
   pub sends : step.send ≡ said t
   pub asks : step.ask ≡ question (rest t)
   pub goes_on : talk_of step.phase ≡ rest t
+  pub begun : IsBegun (rest t)
 
 -- the talk that a session stands for
 abbrev pub talk_of_session : Session → Talk

@@ -4,3 +4,5 @@ pub mod OverBytes
 pub mod Conversing
 pub mod Settled
 pub mod Running
+pub mod Tying
+pub mod Asking

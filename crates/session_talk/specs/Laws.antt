@@ -1,5 +1,5 @@
 -- What holds of every talk.
-use Rattle.std.specs.Prelude.{◌≡◌, ℕ, false, List, [], ◌∷◌, ◌++◌}
+use Rattle.std.specs.Prelude.{◌≡◌, IsTrue, ℕ, false, List, [], ◌∷◌, ◌++◌}
 use Rattle.packet_frame.specs.declared.packets.Packet.{Packet}
 use Rattle.factor_chain.specs.declared.credentials.Look.{Look}
 use Rattle.factor_chain.specs.declared.evidence_list.Evidence.{Evidence}
@@ -10,6 +10,7 @@ use Rattle.session_talk.specs.Owed as owing
 use Rattle.session_talk.specs.Owed.{Own, Late, Saw, Did, owed}
 use Rattle.session_talk.specs.Runs.{AllAnswer, Standing, owns_in, packets_in, spoken, stands_after}
 use Rattle.session_talk.specs.Talk.{Talk}
+use Rattle.session_talk.specs.Turns.{Answers, IsAsked, IsBegun, asked, is_answer}
 use Rattle.session_talk.specs.Wired as wiring
 use Rattle.session_talk.specs.Wired.{Stream, wired}
 use Rattle.session_talk.specs.declared.attempts.Attempting.{Attempting}
@@ -52,6 +53,11 @@ pub record ConversationsAreRuns : Type 0 where
   pub each_is : (id : ℕ) (before : List Move) (user : List ℕ) (evidences : List Evidence) (flags : ℕ) (reply : Reply) (payload : List ℕ) (after : Talk) →
       Goes (session id) (before ++ Settled user evidences flags reply ∷ Send payload ∷ []) after →
       Conversation id (before ++ Settled user evidences flags reply ∷ Send payload ∷ []) reply
+
+-- What answers the question that a session asked, answers the session.
+abbrev pub AsksAreAnswered : Type 0
+AsksAreAnswered =
+    (next : ℕ) (t : Talk) (given : Input) → IsBegun t → Answers (asked next t) given → IsTrue (is_answer t given) × IsAsked t given
 
 -- A stale answer changes nothing of what a session sends, nor of what follows: once, and twice.
 pub record StaleChangesNothing : Type 0 where

@@ -7,3 +7,4 @@ pub mod Wired
 pub mod Conversation
 pub mod Laws
 pub mod Runs
+pub mod Transcript

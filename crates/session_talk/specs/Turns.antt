@@ -1,5 +1,5 @@
 -- One turn of a session: what is said before the next question, the question, and what an answer leads to.
-use Rattle.std.specs.Prelude.{◌≡◌, ℕ, ◌+◌, ◌/◌, ◌%◌, nat_le, Bool, true, false, if◌then◌else◌, List, [], ◌∷◌, length, Option, Some, None}
+use Rattle.std.specs.Prelude.{◌≡◌, IsTrue, ℕ, ◌+◌, ◌/◌, ◌%◌, nat_le, Bool, true, false, if◌then◌else◌, List, [], ◌∷◌, length, Option, Some, None}
 use Rattle.std.specs.List.{list_all}
 use Rattle.lg_base.specs.declared.errors.Code.TheVariants as code
 use Rattle.packet_frame.specs.Packets.{id_after}
@@ -172,6 +172,24 @@ IsAsked (Checks look evidences t) (input.Checked checked) = checked ≡ record {
 IsAsked (Settles checked flags stale k) (input.Stale evidences) = evidences ≡ checked.evidences
 IsAsked t _ = Unit {0}
 
+-- an input answers what was asked for
+abbrev pub Answers : Ask → Input → Type 0
+Answers (ask.Read want) given = IsTrue (is_read given)
+Answers ask.Draw given = IsTrue (is_draw given)
+Answers (ask.Observe who) given = IsTrue (is_look given)
+Answers (ask.Renew who) given = IsTrue (is_look given)
+Answers (ask.Check look evidences) (input.Checked checked) = checked ≡ record { look = look; evidences = evidences }
+Answers (ask.Settle checked flags) (input.Stale evidences) = evidences ≡ checked.evidences
+Answers (ask.Settle checked flags) (input.Settled reply) = Unit {0}
+Answers (ask.SettleLocked user evidences flags) given = IsTrue (is_settled given)
+Answers _ _ = ⊥
+
+-- a session that has begun has drawn its first nonce
+abbrev pub IsBegun : Talk → Type 0
+IsBegun (Draws true k) = ⊥
+IsBegun (Says payload t) = ⊥
+IsBegun t = Unit {0}
+
 -- What a session does on an answer, where `next` is the sequence id of the next packet: it sends what the talk says,
 -- and then asks what the talk asks.
 pub record Acts (next : ℕ) (t : Talk) (given : Input) (action : Action) (next_after : ℕ) (after : Talk) : Type 0 where
@@ -180,3 +198,4 @@ pub record Acts (next : ℕ) (t : Talk) (given : Input) (action : Action) (next_
   pub next_is : next_after ≡ id_behind_all action.first action.send
   pub goes_on : after ≡ rest (heard t given)
   pub asks : action.ask ≡ asked next_after after
+  pub begun : IsBegun after

@@ -1,6 +1,7 @@
 //! Laws of the model. Each function does nothing: its contract is the law.
 
-ghost use Rattle.session_talk.specs.Laws.{ConversationsAreRuns, OwedGoesOn, RunsAreOwed, StaleChangesNothing, WiredGoesOn};
+ghost use Rattle.session_talk.specs.Transcript.{WiredIsOwed};
+ghost use Rattle.session_talk.specs.Laws.{AsksAreAnswered, ConversationsAreRuns, OwedGoesOn, RunsAreOwed, StaleChangesNothing, WiredGoesOn};
 
 /// What is owed goes on with further packets and answers, and over bytes however they are cut.
 pub fn what_is_owed_goes_on()
@@ -22,4 +23,14 @@ pub fn conversations_are_runs()
 /// A stale answer changes nothing of what is sent.
 pub fn stale_changes_nothing()
     ensures { StaleChangesNothing }
+{}
+
+/// What is owed over bytes is what is owed for the packets among them, and the error of a fault of framing.
+pub fn wired_is_owed()
+    ensures { WiredIsOwed }
+{}
+
+/// What answers the question that a session asked, answers the session.
+pub fn asks_are_answered()
+    ensures { AsksAreAnswered }
 {}

@@ -1,0 +1,57 @@
+-- What is owed over bytes is what is owed for the packets among them.
+use Rattle.std.proofs.Common.{◌≡◌, refl, ap, sym, ◌∙◌, ℕ, Bool, List, [], ◌∷◌, ◌++◌, Option, Some, None}
+use Rattle.packet_frame.specs.Front.{Front, Whole, Part, Fault}
+use Rattle.packet_frame.specs.Packets.{id_after}
+use Rattle.packet_frame.specs.declared.packets.FrameFault.{FrameFault}
+use Rattle.packet_frame.specs.declared.packets.Packet.{Packet}
+use Rattle.session_talk.specs.Owed as owing
+use Rattle.session_talk.specs.Owed.{Own, Drew, Saw, Late, Did, Owed, Sent, owed}
+use Rattle.session_talk.specs.Talk.{Talk, Says, Hears, Draws, Looks, Checks, Settles, SettlesLocked, Over}
+use Rattle.session_talk.specs.Transcript.{Reading, WiredIsOwed, after_packet, by_packet, fault_at, fault_in, read_of, told_fault, wanted_at}
+use Rattle.session_talk.specs.Turns.{faulted, id_behind, wanted}
+use Rattle.session_talk.specs.Wired.{Stream, Wired, after_all_sent, after_sent, behind_of, by_front, front_of, said_from, stops, wired}
+
+-- a payload that is sent first
+sent_first : (first : Sent) (fault : Option FrameFault) (o : Owed) (stream : Stream) →
+    after_sent first (told_fault fault o stream) ≡ told_fault fault (owing.after_sent first o) stream
+sent_first first None o stream = refl
+sent_first first (Some fault) o stream = refl
+
+module _ (next : ℕ) (anew : Bool) (k : List ℕ → Talk) (stream : Stream) (owns : List Own) where
+  abbrev read_by : Front → Reading
+  read_by f = by_packet (λ packet behind. after_packet packet (read_of (id_after packet.last) (k packet.payload) behind owns)) stream f
+
+  abbrev wired_by : Front → Wired
+  wired_by f = by_front (λ last payload behind. wired (id_after last) (k payload) (behind_of stream behind) owns)
+      (stops next (Hears anew k) stream owns) (λ fault. said_from (id_after (wanted anew next)) (faulted fault) stream owns) f
+
+  abbrev tied : Reading → Wired
+  tied read = told_fault (fault_at (owed next (Hears anew k) read.packets owns).next (owed next (Hears anew k) read.packets owns).at read.left)
+      (owed next (Hears anew k) read.packets owns) read.left
+
+  abbrev Again : Type 0
+  Again = (last : ℕ) (payload : List ℕ) (s : Stream) →
+      wired (id_after last) (k payload) s owns
+          ≡ (let read = read_of (id_after last) (k payload) s owns in
+          let o = owed (id_after last) (k payload) read.packets owns in told_fault (fault_at o.next o.at read.left) o read.left)
+
+  by_shown : Again → (f : Front) → front_of (wanted anew next) stream ≡ f → wired_by f ≡ tied (read_by f)
+  unfolding wired owed
+  by_shown again (Whole first last payload behind) e = again last payload (behind_of stream behind)
+  by_shown again (Part missing) e = ap (λ (g : Front). told_fault (fault_in g) (owing.waits next (Hears anew k) [] owns) stream) (sym e)
+  by_shown again (Fault fault) e = ap (λ (g : Front). told_fault (fault_in g) (owing.waits next (Hears anew k) [] owns) stream) (sym e)
+
+pub wired_is_owed : WiredIsOwed
+unfolding wired owed read_of
+wired_is_owed next (Says payload t) stream owns =
+    ap (after_sent (record { first = next; payload = payload })) (wired_is_owed (id_behind next payload) t stream owns)
+    ∙ sent_first (record { first = next; payload = payload }) _ _ _
+wired_is_owed next (Hears anew k) stream owns =
+    by_shown next anew k stream owns (λ last payload s. wired_is_owed (id_after last) (k payload) s owns) (front_of (wanted anew next) stream) refl
+wired_is_owed next (Draws first k) stream (Drew nonce ∷ owns) = wired_is_owed next (k nonce) stream owns
+wired_is_owed next (Looks again who k) stream (Saw look ∷ owns) = wired_is_owed next (k look) stream owns
+wired_is_owed next (Checks look evidences t) stream owns = wired_is_owed next t stream owns
+wired_is_owed next (Settles checked flags stale k) stream (Late ∷ owns) = wired_is_owed next stale stream owns
+wired_is_owed next (Settles checked flags stale k) stream (Did reply ∷ owns) = wired_is_owed next (k reply) stream owns
+wired_is_owed next (SettlesLocked user evidences flags k) stream (Did reply ∷ owns) = wired_is_owed next (k reply) stream owns
+wired_is_owed next t stream owns = refl

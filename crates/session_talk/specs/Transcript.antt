@@ -1,0 +1,118 @@
+-- A session whole: its number, the bytes that it reads, the entries that it adds to the history, the bytes that it
+-- sends, and its end.
+use Rattle.std.specs.Prelude.{◌≡◌, ℕ, ◌+◌, ◌==◌, not, Bool, List, [], ◌∷◌, ◌++◌, length, Option, Some, None}
+use Rattle.packet_frame.specs.Front.{Front, Whole, Part, Fault}
+use Rattle.packet_frame.specs.Packets.{IsPacket, id_after}
+use Rattle.packet_frame.specs.declared.packets.FrameFault.{FrameFault}
+use Rattle.packet_frame.specs.declared.packets.Packet.{Packet}
+use Rattle.packet_frame.specs.declared.packets.Want.TheVariants.{Exactly}
+use Rattle.account_history.specs.declared.entries.Entry.{Entry}
+use Rattle.account_history.specs.declared.entries.Entry.TheVariants.{Observed, Attempted}
+use Rattle.session_talk.specs.declared.ends.SessionEnd.{SessionEnd}
+use Rattle.session_talk.specs.declared.ends.SessionEnd.TheVariants as end
+use Rattle.session_talk.specs.Logins.{session}
+use Rattle.session_talk.specs.Owed as owing
+use Rattle.session_talk.specs.Owed.{Own, Drew, Saw, Late, Did, Owed, Sent, owed}
+use Rattle.session_talk.specs.Talk.{Talk, Says, Hears, Draws, Looks, Checks, Settles, SettlesLocked, Over}
+use Rattle.session_talk.specs.Turns.{faulted, id_behind, wanted}
+use Rattle.session_talk.specs.Wired.{Stream, Wired, after_all_sent, behind_of, front_of, said_from, stops, wired}
+
+-- ## The packets among the bytes
+
+-- what is read of a stream: packets, and what is left of it
+pub record Reading : Type 0 where
+  pub packets : List Packet
+  pub left : Stream
+
+abbrev pub after_packet : Packet → Reading → Reading
+after_packet packet r = record r { packets = packet ∷ r.packets }
+
+abbrev pub by_packet : (Packet → Stream → Reading) → Stream → Front → Reading
+by_packet goes_on stream (Whole first last payload behind) =
+    goes_on (record { first = first; last = last; at = stream.place; payload = payload }) (behind_of stream behind)
+by_packet goes_on stream (Part missing) = record { packets = []; left = stream }
+by_packet goes_on stream (Fault fault) = record { packets = []; left = stream }
+
+-- the packets that a session reads, each with the id that it then wants
+unfoldable pub read_of : (next : ℕ) → Talk → Stream → List Own → Reading
+read_of next (Says payload t) stream owns = read_of (id_behind next payload) t stream owns
+read_of next (Hears anew k) stream owns =
+    by_packet (λ packet behind. after_packet packet (read_of (id_after packet.last) (k packet.payload) behind owns)) stream (front_of (wanted anew next) stream)
+read_of next (Draws first k) stream (Drew nonce ∷ owns) = read_of next (k nonce) stream owns
+read_of next (Looks again who k) stream (Saw look ∷ owns) = read_of next (k look) stream owns
+read_of next (Checks look evidences t) stream owns = read_of next t stream owns
+read_of next (Settles checked flags stale k) stream (Late ∷ owns) = read_of next stale stream owns
+read_of next (Settles checked flags stale k) stream (Did reply ∷ owns) = read_of next (k reply) stream owns
+read_of next (SettlesLocked user evidences flags k) stream (Did reply ∷ owns) = read_of next (k reply) stream owns
+read_of next t stream owns = record { packets = []; left = stream }
+
+-- the fault of framing that stands where a packet is waited for
+abbrev pub fault_in : Front → Option FrameFault
+fault_in (Whole first last payload behind) = None
+fault_in (Part missing) = None
+fault_in (Fault fault) = Some fault
+
+abbrev pub fault_at : (next : ℕ) → Talk → Stream → Option FrameFault
+fault_at next (Hears anew k) stream = fault_in (front_of (wanted anew next) stream)
+fault_at next t stream = None
+
+abbrev pub wanted_at : (next : ℕ) → Talk → ℕ
+wanted_at next (Hears anew k) = wanted anew next
+wanted_at next t = next
+
+-- what is owed for the packets, and then the error of a fault
+abbrev pub told_fault : Option FrameFault → Owed → Stream → Wired
+told_fault None o stream = after_all_sent o.sent (stops o.next o.at stream o.unused)
+told_fault (Some fault) o stream = after_all_sent o.sent (said_from (id_after (wanted_at o.next o.at)) (faulted fault) stream o.unused)
+
+-- What is owed over bytes is what is owed for the packets among them, and the error of a fault of framing that stands
+-- where a packet is waited for.
+abbrev pub WiredIsOwed : Type 0
+WiredIsOwed =
+    (next : ℕ) (t : Talk) (stream : Stream) (owns : List Own) →
+    let read = read_of next t stream owns in
+    let o = owed next t read.packets owns in
+    wired next t stream owns ≡ told_fault (fault_at o.next o.at read.left) o read.left
+
+-- ## The entries
+
+-- what a session's own side was answered makes these entries of the history, by the readings of the clock in order
+unfoldable pub Enters : Talk → List Packet → List Own → List Entry → Type 0
+Enters (Says payload t) packets owns entries = Enters t packets owns entries
+Enters (Hears anew k) (packet ∷ packets) owns entries = Enters (k packet.payload) packets owns entries
+Enters (Draws first k) packets (Drew nonce ∷ owns) entries = Enters (k nonce) packets owns entries
+Enters (Looks again who k) packets (Saw look ∷ owns) (entry ∷ entries) = (entry ≡ Observed who look) × Enters (k look) packets owns entries
+Enters (Checks look evidences t) packets owns entries = Enters t packets owns entries
+Enters (Settles checked flags stale k) packets (Late ∷ owns) entries = Enters stale packets owns entries
+Enters (Settles checked flags stale k) packets (Did reply ∷ owns) (entry ∷ entries) =
+    (reading : ℕ) × (entry ≡ Attempted (record { user = checked.look.user; evidences = checked.evidences; flags = flags; reading = reading; reply = reply }))
+    × Enters (k reply) packets owns entries
+Enters (SettlesLocked user evidences flags k) packets (Did reply ∷ owns) (entry ∷ entries) =
+    (reading : ℕ) × (entry ≡ Attempted (record { user = user; evidences = evidences; flags = flags; reading = reading; reply = reply }))
+    × Enters (k reply) packets owns entries
+Enters t packets owns entries = (owns ≡ []) × (entries ≡ [])
+
+-- ## The end
+
+-- how the peer's bytes go on after those that were read
+pub data Peer : Type 0 where
+  Open : Peer
+  Closed : Peer
+  Failed : Peer
+
+-- the end of a session that waits for a packet, and whose peer has closed the connection or whose link has failed
+abbrev pub ended : Peer → Talk → Stream → Option SessionEnd
+ended peer (Over how) stream = Some how
+ended Closed (Hears anew k) stream = Some (end.PeerClosed (not (length stream.bytes == 0)))
+ended Failed (Hears anew k) stream = Some end.LinkFault
+ended peer t stream = None
+
+-- ## The whole
+
+-- A session of this number reads these bytes from its peer, adds these entries, sends these payloads and ends so, if it
+-- has ended.
+pub record Transcript (id : ℕ) (peer : Peer) (bytes : List ℕ) (entries : List Entry) (sent : List Sent) (how : Option SessionEnd) : Type 0 where
+  pub owns : List Own
+  pub entered : Enters (session id) (read_of 0 (session id) (record { place = 0; bytes = bytes }) owns).packets owns entries
+  pub sends : sent ≡ (wired 0 (session id) (record { place = 0; bytes = bytes }) owns).sent
+  pub ends : how ≡ ended peer (wired 0 (session id) (record { place = 0; bytes = bytes }) owns).at (wired 0 (session id) (record { place = 0; bytes = bytes }) owns).unread
