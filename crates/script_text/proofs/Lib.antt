@@ -1,0 +1,5 @@
+pub mod Cuts
+pub mod Digits
+pub mod Given
+pub mod Users
+pub mod Standing

@@ -1,0 +1,135 @@
+//! The text of a replay script, read into a setup and a list of events.
+//!
+//! **[`Script::read`] gives what a text says if each of its lines fits behind those before it, and else
+//! the number of the first that doesn't.** The setup is one of which `account_machine` can make a start.
+//!
+//! A script is this project's own format, one line after another, each ended by LF:
+//!
+//! ```text
+//! # an account with the user ann and the password secret
+//! account 616e6e 736563726574
+//! set history 3
+//!
+//! clock 86400
+//! open 1
+//! bytes 1 0100000000
+//! run 1
+//! end
+//! ```
+//!
+//! `specs/Lines.antt` says what a line says, `specs/Reading.antt` which lines fit where; `docs/REPLAY.md`
+//! explains both by example. Below stand `lg_base`, `account_rules` for settings, `account_history` and
+//! `account_machine` for the accounts of a start, `hex` and `thiserror`.
+#![tactic(auto)]
+
+ghost use Rattle.script_text.specs.Reading.{Finishes};
+
+mod accounts;
+pub mod event;
+mod line;
+mod progress;
+#[cfg(test)]
+mod tests;
+mod words;
+
+pub use event::{Event, Setup};
+use lg_base::{Items, Memory};
+use progress::Progress;
+use std::alloc::Global;
+use std::marker::Model;
+use thiserror::Error;
+use words::cut;
+
+/// Why a text is no script.
+#[derive(Debug, PartialEq, Eq, Drop, Error)]
+pub enum ScriptFault {
+    /// The first line that doesn't fit, counted from 1: the line after the last one where `end` is
+    /// missing.
+    #[error("line {line} doesn't fit")]
+    BadLine { line: u64 },
+    /// No memory was to be had.
+    #[error("no memory was to be had")]
+    Memory,
+}
+
+impl From<Memory> for ScriptFault {
+    ghost use Rattle.script_text.specs.declared.ScriptFault.TheVariants as fault;
+    ghost use Rattle.std.specs.Prelude.{◌≡◌};
+
+    ghost from_gives = { λ _ made. made ≡ fault.Memory };
+
+    fn from(_refused: Memory) -> ScriptFault {
+        ScriptFault::Memory
+    }
+}
+
+/// A script that was read.
+#[derive(Debug, Drop)]
+pub struct Script {
+    setup: Setup,
+    events: Items<Event>,
+}
+
+impl Model for Script {
+    ghost use Rattle.script_text.specs.Reading.{Contents, IsContents};
+
+    ghost Value = { Contents };
+
+    ghost view = { λ s. record { setup = s.setup; events = s.events } };
+
+    ghost invariant = { λ s. IsContents s.setup s.events };
+}
+
+impl Script {
+    ghost use Rattle.script_text.specs.Reading.{AreEvents, IsSetup, Reads};
+    ghost use Rattle.std.specs.Prelude.{◌≡◌};
+
+    /// What `text` says, or why it is no script.
+    pub fn read(alloc: Global, text: &[u8]) -> Result<Script, ScriptFault>
+        ensures { Reads text.now result }
+    {
+        let mut said = Progress::new(alloc);
+        let mut rest = text;
+        let mut number: u64 = 1;
+        'lines: loop {
+            let (line, behind) = cut(rest, b'\n');
+            let Some(behind) = behind else {
+                return finish(said, line, number);
+            };
+            if !said.take(line)? {
+                return Err(ScriptFault::BadLine { line: number });
+            }
+            rest = behind;
+            number += 1;
+        }
+    }
+
+    /// What stands at the start. `account_machine` can make a start of it.
+    pub fn setup(&self) -> &Setup
+        ensures same { result.now ≡ (self.now).setup }
+        ensures given { IsSetup result.now }
+    {
+        &self.setup
+    }
+
+    /// What happens, in order. No session has the number 0.
+    pub fn events(&self) -> &[Event]
+        ensures same { result.now ≡ (self.now).events }
+        ensures given { AreEvents result.now }
+    {
+        self.events.as_slice()
+    }
+}
+
+/// Ends a script at what stands behind the last LF, which would be the line of this number.
+fn finish(said: Progress, last: &[u8], number: u64) -> Result<Script, ScriptFault>
+    ensures { Finishes said last.now number result }
+{
+    if !last.is_empty() {
+        return Err(ScriptFault::BadLine { line: number });
+    }
+    match said.finish() {
+        None => Err(ScriptFault::BadLine { line: number }),
+        Some((setup, events)) => Ok(Script { setup, events }),
+    }
+}
