@@ -1,12 +1,12 @@
 -- What a line can say.
-use Rattle.std.proofs.Common.{◌≡◌, ℕ, Bool, true, false, cond, not, List, [], ◌∷◌, Option, Some, None, refl, sym, ap, subst, ◌∙◌, arith, rules, eqb, leb}
+use Rattle.std.proofs.Common.{◌≡◌, ℕ, Bool, true, false, cond, not, List, [], ◌∷◌, Option, Some, None, refl, sym, ap, subst, ◌∙◌, eqb, leb}
 use Rattle.std.specs.Str.{bytes_eq}
 use Rattle.std.specs.Prelude.{codes, IfOk, Result, Ok, Err}
 use Rattle.lg_base.specs.declared.allocation.Memory.{Memory}
 use Rattle.std.specs.Option.{option_map}
 use Rattle.account_history.specs.declared.entries.Opening.{Opening}
 use Rattle.account_machine.specs.Openings.{is_opening}
-use Rattle.script_text.specs.Words.{digits_from, from_one, hex_word, is_none_left, number_word, pair, session_word, single, within, words}
+use Rattle.script_text.specs.Words.{digits_from, from_one, hex_word, is_none_left, number_word, pair, single, within, words}
 use Rattle.script_text.specs.Lines.{IsGiven, is_setting, bytes_if, bytes_of, end_of, is_event, is_line, keyword_of, line_of, opening_if, opening_of, reading_of, said_by, said_if, said_in, session_of, setting_of}
 use Rattle.script_text.specs.declared.event.Event.{Event}
 use Rattle.script_text.specs.declared.event.Event.TheVariants as event

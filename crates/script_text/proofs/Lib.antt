@@ -3,3 +3,4 @@ pub mod Digits
 pub mod Given
 pub mod Users
 pub mod Standing
+pub mod Whole

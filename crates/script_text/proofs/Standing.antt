@@ -1,12 +1,11 @@
 -- A text of which some lines were read.
-use Rattle.std.proofs.Common.{◌≡◌, ◌≢◌, ◌⊎◌, ℕ, ◌+◌, List, [], ◌∷◌, ◌++◌, length, Option, Some, None, refl, sym, ap, subst, ◌∙◌, append_assoc, length-append, arith, Result, Ok, Err}
+use Rattle.std.proofs.Common.{◌≡◌, ℕ, ◌+◌, List, [], ◌∷◌, ◌++◌, length, Option, Some, None, refl, sym, ap, subst, ◌∙◌, append_assoc, length-append, arith, Result, Ok, Err}
 use Rattle.std.specs.Prelude.{◌==◌}
 use Rattle.script_text.specs.declared.ScriptFault.{ScriptFault}
 use Rattle.script_text.specs.declared.ScriptFault.TheVariants as fault
 use Rattle.std.specs.Option.{option_and_then}
 use Rattle.script_text.specs.Words.{parts}
-use Rattle.script_text.specs.Reading.{Contents, DoesNotFit, Finishes, IsBadLine, IsScript, Progress, Reads, after_line, after_lines, contents_of, start}
-use Rattle.script_text.specs.declared.progress.Phase.TheVariants as phase
+use Rattle.script_text.specs.Reading.{Contents, DoesNotFit, Finishes, IsBadLine, Progress, Reads, after_line, after_lines, start}
 use Rattle.script_text.proofs.Cuts.{parted}
 
 -- lines were read that say this, and the rest is left, from the line of this number on
@@ -19,7 +18,7 @@ pub record Stands (text rest : List ℕ) (said : Progress) (number : ℕ) : Type
 pub stands-none : (text : List ℕ) (said : Progress) → said ≡ start → Stands text text said 1
 stands-none text said e = record { before = []; split = refl; fit = ap (λ (p : Progress). Some p) (sym e); counted = refl }
 
-after-append : (xs ys : List (List ℕ)) (p : Progress) → after_lines (xs ++ ys) p ≡ option_and_then (λ q. after_lines ys q) (after_lines xs p)
+pub after-append : (xs ys : List (List ℕ)) (p : Progress) → after_lines (xs ++ ys) p ≡ option_and_then (λ q. after_lines ys q) (after_lines xs p)
 after-append [] ys p = refl
 after-append (x ∷ xs) ys p =
     elim (after_line x p) as (λ (next : Option Progress). option_and_then (λ q. after_lines (xs ++ ys) q) next ≡ option_and_then (λ q. after_lines ys q) (option_and_then (λ q. after_lines xs q) next))

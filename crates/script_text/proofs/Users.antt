@@ -1,5 +1,5 @@
 -- Accounts with one more.
-use Rattle.std.proofs.Common.{◌≡◌, ℕ, Bool, true, false, cond, not, ◌&&◌, ◌||◌, List, [], ◌∷◌, ◌++◌, Vec, refl, sym, ap, ◌∙◌, subst, arith, rules}
+use Rattle.std.proofs.Common.{◌≡◌, ℕ, Bool, true, false, cond, not, ◌&&◌, ◌||◌, List, [], ◌∷◌, ◌++◌, Vec, refl, sym, ap, ◌∙◌, arith}
 use Rattle.std.specs.declared.alloc.Global.{Global}
 use Rattle.std.specs.BTreeSet.{BTreeSet, Updates, contains}
 use Rattle.std.specs.Cmp.Lexicographic.{slice_cmp}
@@ -18,7 +18,7 @@ use Rattle.script_text.specs.Users.{HoldsUsers}
 nat_eq-swap : (m n : ℕ) → nat_eq m n ≡ nat_eq n m
 nat_eq-swap m n = grind (arith, nat_tests)
 
-bytes_eq-swap : (xs ys : List ℕ) → bytes_eq xs ys ≡ bytes_eq ys xs
+pub bytes_eq-swap : (xs ys : List ℕ) → bytes_eq xs ys ≡ bytes_eq ys xs
 bytes_eq-swap [] [] = refl
 bytes_eq-swap [] (y ∷ ys) = refl
 bytes_eq-swap (x ∷ xs) [] = refl
@@ -26,13 +26,13 @@ bytes_eq-swap (x ∷ xs) (y ∷ ys) =
     ap (λ (b : Bool). b && bytes_eq xs ys) (nat_eq-swap x y) ∙ ap (λ (b : Bool). nat_eq y x && b) (bytes_eq-swap xs ys)
 
 -- three tests that hold
-all_three : (a b c : Bool) → (a && not b && c) ≡ true → (a ≡ true) × (b ≡ false) × (c ≡ true)
+pub all_three : (a b c : Bool) → (a && not b && c) ≡ true → (a ≡ true) × (b ≡ false) × (c ≡ true)
 all_three true false true h = (refl, refl, refl)
 all_three true false false h = cc
 all_three true true c h = cc
 all_three false b c h = cc
 
-neither : (a b : Bool) → (a || b) ≡ false → (a ≡ false) × (b ≡ false)
+pub neither : (a b : Bool) → (a || b) ≡ false → (a ≡ false) × (b ≡ false)
 neither true b h = cc
 neither false b h = (refl, h)
 

@@ -2,3 +2,4 @@ pub mod Words
 pub mod Lines
 pub mod Reading
 pub mod Users
+pub mod Grammar

@@ -1,5 +1,5 @@
 -- The users of accounts, as a set beside them.
-use Rattle.std.specs.Prelude.{◌≡◌, ℕ, Bool, true, List, Vec}
+use Rattle.std.specs.Prelude.{◌≡◌, ℕ, true, List, Vec}
 use Rattle.std.specs.declared.alloc.Global.{Global}
 use Rattle.std.specs.BTreeSet.{BTreeSet, contains}
 use Rattle.std.specs.Cmp.Lexicographic.{slice_cmp}

@@ -17,12 +17,13 @@
 //! end
 //! ```
 //!
-//! `specs/Lines.antt` says what a line says, `specs/Reading.antt` which lines fit where; `docs/REPLAY.md`
-//! explains both by example. Below stand `lg_base`, `account_rules` for settings, `account_history` and
+//! `specs/Lines.antt` says what a line says, `specs/Reading.antt` which lines fit where, and
+//! `specs/Grammar.antt` what a script is as a whole; `docs/REPLAY.md` explains them by example. Below stand `lg_base`, `account_rules` for settings, `account_history` and
 //! `account_machine` for the accounts of a start, `hex` and `thiserror`.
 #![tactic(auto)]
 
-ghost use Rattle.script_text.specs.Reading.{Finishes};
+ghost use Rattle.script_text.specs.Reading.{Finishes, IsContents, Reads};
+ghost use Rattle.std.specs.Prelude.{IfOk};
 
 mod accounts;
 pub mod event;
@@ -81,27 +82,17 @@ impl Model for Script {
 }
 
 impl Script {
+    ghost use Rattle.script_text.specs.Grammar.{Accepts};
     ghost use Rattle.script_text.specs.Reading.{AreEvents, IsSetup, Reads};
     ghost use Rattle.std.specs.Prelude.{◌≡◌};
 
-    /// What `text` says, or why it is no script.
+    /// What `text` says, or the first of its lines that doesn't fit. It takes time as the text is long, and
+    /// a little more for each account. Only a text that is no script has a bad line.
     pub fn read(alloc: Global, text: &[u8]) -> Result<Script, ScriptFault>
-        ensures { Reads text.now result }
+        ensures reads { Reads text.now result }
+        ensures accepts { Accepts text.now result }
     {
-        let mut said = Progress::new(alloc);
-        let mut rest = text;
-        let mut number: u64 = 1;
-        'lines: loop {
-            let (line, behind) = cut(rest, b'\n');
-            let Some(behind) = behind else {
-                return finish(said, line, number);
-            };
-            if !said.take(line)? {
-                return Err(ScriptFault::BadLine { line: number });
-            }
-            rest = behind;
-            number += 1;
-        }
+        read_lines(alloc, text)
     }
 
     /// What stands at the start. `account_machine` can make a start of it.
@@ -123,7 +114,8 @@ impl Script {
 
 /// Ends a script at what stands behind the last LF, which would be the line of this number.
 fn finish(said: Progress, last: &[u8], number: u64) -> Result<Script, ScriptFault>
-    ensures { Finishes said last.now number result }
+    ensures ends { Finishes said last.now number result }
+    ensures given { IfOk result (λ script. IsContents script.setup script.events) }
 {
     if !last.is_empty() {
         return Err(ScriptFault::BadLine { line: number });
@@ -131,5 +123,26 @@ fn finish(said: Progress, last: &[u8], number: u64) -> Result<Script, ScriptFaul
     match said.finish() {
         None => Err(ScriptFault::BadLine { line: number }),
         Some((setup, events)) => Ok(Script { setup, events }),
+    }
+}
+
+/// What `text` says, line by line.
+fn read_lines(alloc: Global, text: &[u8]) -> Result<Script, ScriptFault>
+    ensures reads { Reads text.now result }
+    ensures given { IfOk result (λ script. IsContents script.setup script.events) }
+{
+    let mut said = Progress::new(alloc);
+    let mut rest = text;
+    let mut number: u64 = 1;
+    'lines: loop {
+        let (line, behind) = cut(rest, b'\n');
+        let Some(behind) = behind else {
+            return finish(said, line, number);
+        };
+        if !said.take(line)? {
+            return Err(ScriptFault::BadLine { line: number });
+        }
+        rest = behind;
+        number += 1;
     }
 }

@@ -1,16 +1,5 @@
-use Rattle.std.proofs.Common.{◌≡◌, ◌∷◌, ◌∙◌, ◌<◌, ap, Some, length, arith, rules}
-use Rattle.std.specs.Option.{option_copied}
-use Rattle.script_text.specs.Reading.{after_line}
-use Rattle.script_text.specs.Words.{parts, parts_behind}
-use Rattle.script_text.proofs.Standing.{stands-more}
+use Rattle.script_text.proofs.Whole.{accepts}
 use Rattle.script_text.proofs.Script.read.Goals as goal
 
-pub lines-preserved : goal.lines-preserved
-lines-preserved c =
-    let cut : parts 10 c.lines.rest.now ≡ c.cut.result.0.now ∷ parts 10 c.in-Some.behind.now = search rules in
-    let fits : after_line c.cut.result.0.now c.lines.said ≡ Some c.take.new.self = search rules in
-    let shorter : length c.in-Some.behind.now < length c.lines.rest.now = search rules in
-    record {
-      stands = stands-more c.args.text.now c.lines.rest.now c.cut.result.0.now c.in-Some.behind.now c.lines.said c.take.new.self c.lines.number c.lines.invariant.stands cut fits;
-      bound = omega arith;
-    }
+pub returns-clause-accepts : goal.returns-clause-accepts
+returns-clause-accepts c = accepts c.args.text.now c.read_lines.result c.read_lines.ensures.reads c.read_lines.ensures.given

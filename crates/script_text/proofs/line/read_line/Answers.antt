@@ -1,5 +1,4 @@
-use Rattle.std.proofs.Common.{◌≡◌, rules, IfOk}
-use Rattle.script_text.specs.Lines.{line_of}
+use Rattle.std.proofs.Common.{rules}
 use Rattle.script_text.proofs.Given.{given-read}
 use Rattle.script_text.proofs.line.read_line.Goals as goal
 

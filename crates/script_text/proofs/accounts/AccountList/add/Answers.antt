@@ -1,4 +1,4 @@
-use Rattle.std.proofs.Common.{◌≡◌, true, false, not, subst, rules, sym, ◌∙◌, List, ◌∷◌, [], ◌++◌}
+use Rattle.std.proofs.Common.{◌≡◌, false, subst, rules, sym, ◌∙◌, List, ◌∷◌, [], ◌++◌}
 use Rattle.account_history.specs.declared.entries.Opening.{Opening}
 use Rattle.script_text.specs.Reading.{is_used}
 use Rattle.script_text.specs.Users.{HoldsUsers}
