@@ -1,6 +1,6 @@
 -- What answers the question that a session asked, answers the session.
 use Rattle.std.proofs.Common.{◌≡◌, refl, ℕ, Bool, true, false, List}
-use Rattle.session_talk.specs.Laws.{AsksAreAnswered}
+use Rattle.session_talk.specs.Laws.{AsksAreAnswered, WhatFitsIsAsked}
 use Rattle.session_talk.specs.Talk.{Talk, Says, Hears, Draws, Looks, Checks, Settles, SettlesLocked, Over}
 use Rattle.session_talk.specs.Turns.{Answers, IsAsked, IsBegun, asked, is_answer, question}
 use Rattle.session_talk.specs.declared.inputs.Input.{Input}
@@ -21,3 +21,9 @@ asks_are_answered next (Settles checked flags stale k) (input.Settled reply) beg
 asks_are_answered next (Settles checked flags stale k) _ begun answers = absurd answers
 asks_are_answered next (SettlesLocked user evidences flags k) given begun answers = (answers, tt)
 asks_are_answered next (Over how) given begun answers = absurd answers
+
+pub what_fits_is_asked : WhatFitsIsAsked
+unfolding question IsAsked
+what_fits_is_asked next (Checks look evidences t) (input.Checked checked) fits = fits
+what_fits_is_asked next (Settles checked flags stale k) (input.Stale evidences) fits = fits
+what_fits_is_asked next t given fits = tt

@@ -6,3 +6,4 @@ pub mod Settled
 pub mod Running
 pub mod Tying
 pub mod Asking
+pub mod Bounding

@@ -4,13 +4,14 @@ use Rattle.packet_frame.specs.declared.packets.Packet.{Packet}
 use Rattle.factor_chain.specs.declared.credentials.Look.{Look}
 use Rattle.factor_chain.specs.declared.evidence_list.Evidence.{Evidence}
 use Rattle.account_history.specs.declared.entries.Reply.{Reply}
+use Rattle.session_talk.specs.Bounds.{Within}
 use Rattle.session_talk.specs.Conversation.{Conversation, Goes, Move, Sent as Send, Settled}
 use Rattle.session_talk.specs.Logins.{outcome, session, settling}
 use Rattle.session_talk.specs.Owed as owing
 use Rattle.session_talk.specs.Owed.{Own, Late, Saw, Did, owed}
 use Rattle.session_talk.specs.Runs.{AllAnswer, Standing, owns_in, packets_in, spoken, stands_after}
 use Rattle.session_talk.specs.Talk.{Talk}
-use Rattle.session_talk.specs.Turns.{Answers, IsAsked, IsBegun, asked, is_answer}
+use Rattle.session_talk.specs.Turns.{Answers, IsAsked, IsBegun, IsFitting, asked, is_answer}
 use Rattle.session_talk.specs.Wired as wiring
 use Rattle.session_talk.specs.Wired.{Stream, wired}
 use Rattle.session_talk.specs.declared.attempts.Attempting.{Attempting}
@@ -58,6 +59,14 @@ pub record ConversationsAreRuns : Type 0 where
 abbrev pub AsksAreAnswered : Type 0
 AsksAreAnswered =
     (next : ℕ) (t : Talk) (given : Input) → IsBegun t → Answers (asked next t) given → IsTrue (is_answer t given) × IsAsked t given
+
+-- What is given back as it was asked about, is what the session asked about.
+abbrev pub WhatFitsIsAsked : Type 0
+WhatFitsIsAsked = (next : ℕ) (t : Talk) (given : Input) → IsFitting (asked next t) given → IsAsked t given
+
+-- A session asks at most seven questions between two packets.
+abbrev pub SessionsAreBounded : Type 0
+SessionsAreBounded = (id : ℕ) → Within 7 (session id)
 
 -- A stale answer changes nothing of what a session sends, nor of what follows: once, and twice.
 pub record StaleChangesNothing : Type 0 where

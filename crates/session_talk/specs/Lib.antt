@@ -5,6 +5,7 @@ pub mod Turns
 pub mod Owed
 pub mod Wired
 pub mod Conversation
+pub mod Bounds
 pub mod Laws
 pub mod Runs
 pub mod Transcript

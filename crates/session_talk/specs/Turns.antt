@@ -184,6 +184,12 @@ Answers (ask.Settle checked flags) (input.Settled reply) = Unit {0}
 Answers (ask.SettleLocked user evidences flags) given = IsTrue (is_settled given)
 Answers _ _ = ⊥
 
+-- what is given back is what was asked about
+abbrev pub IsFitting : Ask → Input → Type 0
+IsFitting (ask.Check look evidences) (input.Checked checked) = checked ≡ record { look = look; evidences = evidences }
+IsFitting (ask.Settle checked flags) (input.Stale evidences) = evidences ≡ checked.evidences
+IsFitting _ _ = Unit {0}
+
 -- a session that has begun has drawn its first nonce
 abbrev pub IsBegun : Talk → Type 0
 IsBegun (Draws true k) = ⊥

@@ -1,7 +1,7 @@
 //! Laws of the model. Each function does nothing: its contract is the law.
 
 ghost use Rattle.session_talk.specs.Transcript.{WiredIsOwed};
-ghost use Rattle.session_talk.specs.Laws.{AsksAreAnswered, ConversationsAreRuns, OwedGoesOn, RunsAreOwed, StaleChangesNothing, WiredGoesOn};
+ghost use Rattle.session_talk.specs.Laws.{AsksAreAnswered, ConversationsAreRuns, OwedGoesOn, RunsAreOwed, SessionsAreBounded, StaleChangesNothing, WhatFitsIsAsked, WiredGoesOn};
 
 /// What is owed goes on with further packets and answers, and over bytes however they are cut.
 pub fn what_is_owed_goes_on()
@@ -32,5 +32,11 @@ pub fn wired_is_owed()
 
 /// What answers the question that a session asked, answers the session.
 pub fn asks_are_answered()
-    ensures { AsksAreAnswered }
+    ensures kind { AsksAreAnswered }
+    ensures fits { WhatFitsIsAsked }
+{}
+
+/// A session asks at most seven questions between two packets.
+pub fn sessions_are_bounded()
+    ensures { SessionsAreBounded }
 {}

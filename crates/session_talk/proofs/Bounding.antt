@@ -1,0 +1,76 @@
+-- A session asks at most seven questions between two packets.
+use Rattle.std.proofs.Common.{◌≡◌, refl, ℕ, zero, suc, Bool, true, false, List, [], ◌∷◌, Option, Some, None, Result, Ok, Err}
+use Rattle.lg_base.specs.declared.errors.Code.{Code}
+use Rattle.factor_chain.specs.Checking.{known_fits_of}
+use Rattle.factor_chain.specs.declared.credentials.Look.{Look}
+use Rattle.factor_chain.specs.declared.credentials.Method.{Method}
+use Rattle.factor_chain.specs.declared.credentials.Method.TheVariants.{Native, CachingSha2}
+use Rattle.factor_chain.specs.declared.evidence_list.Evidence.{Evidence}
+use Rattle.factor_chain.specs.declared.evidence_list.Evidence.TheVariants as evidence
+use Rattle.account_history.specs.declared.entries.Reply.{Reply}
+use Rattle.wire_form.specs.Payloads.{start}
+use Rattle.auth_packets.specs.Commands.{command}
+use Rattle.auth_packets.specs.Handshake.{response}
+use Rattle.auth_packets.specs.declared.commands.Command.{Command}
+use Rattle.auth_packets.specs.declared.commands.Command.TheVariants.{Quit, Query, Ping, Reset, ChangeUser as Change, Other, Nothing}
+use Rattle.auth_packets.specs.declared.handshake.Response.{Response}
+use Rattle.session_talk.specs.Bounds.{Within}
+use Rattle.session_talk.specs.Laws.{SessionsAreBounded}
+use Rattle.session_talk.specs.Logins.{all_commands, answer, answered, answering, attempt_of, caching, claim_of, claimed, clear_evidence, commanded, commands, is_blank, is_named, method_of, next_command, outcome, proved, proving, refusal_of, responded, session, without_zero}
+use Rattle.session_talk.specs.Talk.{Talk}
+use Rattle.session_talk.specs.declared.attempts.Attempting.{Attempting}
+use Rattle.session_talk.specs.declared.attempts.Claim.{Claim}
+
+commanded_within : (found : Result Command ℕ) (next : Talk) → Within 7 next → Within 7 (commanded found next)
+commanded_within (Ok Quit) next within = tt
+commanded_within (Ok Ping) next within = within
+commanded_within (Ok Reset) next within = within
+commanded_within (Ok (Query text)) next within = within
+commanded_within (Ok (Change v)) next within = within
+commanded_within (Ok (Other first)) next within = within
+commanded_within (Ok Nothing) next within = within
+commanded_within (Err at) next within = within
+
+command_within : (left : ℕ) (payload : List ℕ) → Within 7 (next_command left payload)
+unfolding next_command
+command_within zero payload = tt
+command_within (suc left) payload = commanded_within (command.read (start payload)) (commands left) (command_within left)
+
+answered_within : (n : ℕ) (o : Option Code) → Within n (answered o)
+answered_within n None = command_within all_commands
+answered_within n (Some error) = tt
+
+abbrev six_more : ℕ → ℕ
+six_more n = suc (suc (suc (suc (suc (suc n)))))
+
+proved_within : (n : ℕ) (a : Attempting) (look : Look) (given : Evidence) → Within (six_more n) (proved a look given)
+proved_within n a look given = (
+  (λ again. (λ reply. answered_within n (refusal_of a.user reply), λ reply. answered_within (suc n) (refusal_of a.user reply))),
+  λ reply. answered_within _ (refusal_of a.user reply),
+)
+
+clear_within : (a : Attempting) (look : Look) (text : List ℕ) → Within 7 (proved a look (clear_evidence (without_zero text)))
+clear_within a look text = proved_within 1 a look (clear_evidence (without_zero text))
+
+caching_within : (n : ℕ) (a : Attempting) (look : Look) (nonce bytes : List ℕ) (known : Bool) → Within (six_more n) (caching a look nonce bytes known)
+caching_within n a look nonce bytes true = proved_within n a look (evidence.Fast nonce bytes)
+caching_within n a look nonce bytes false = clear_within a look
+
+proving_within : (n : ℕ) (a : Attempting) (look : Look) (nonce bytes : List ℕ) (method : Method) → Within (six_more n) (proving a look nonce bytes method)
+proving_within n a look nonce bytes Native = proved_within n a look (evidence.Native nonce bytes)
+proving_within n a look nonce bytes CachingSha2 = caching_within n a look nonce bytes (known_fits_of look.in_force nonce bytes)
+
+answering_within : (n : ℕ) (a : Attempting) (look : Look) (nonce bytes : List ℕ) (blank : Bool) → Within (six_more n) (answering a look nonce bytes blank)
+answering_within n a look nonce bytes true = proved_within n a look evidence.Empty
+answering_within n a look nonce bytes false = proving_within n a look nonce bytes (method_of look)
+
+claimed_within : (a : Attempting) (claim : Claim) (look : Look) (named : Bool) → Within 6 (claimed a claim look named)
+claimed_within a claim look true = answering_within 0 a look claim.nonce claim.auth (is_blank claim.auth)
+claimed_within a claim look false = λ nonce bytes. answering_within 1 a look nonce bytes (is_blank bytes)
+
+responded_within : (nonce : List ℕ) (found : Result Response ℕ) → Within 7 (responded nonce found)
+responded_within nonce (Ok said) = λ look. claimed_within (attempt_of said) (claim_of nonce said) look (is_named (claim_of nonce said) look)
+responded_within nonce (Err at) = tt
+
+pub sessions_are_bounded : SessionsAreBounded
+sessions_are_bounded id nonce payload = responded_within nonce (response.read (start payload))
