@@ -1,3 +1,9 @@
 pub mod Loops
+pub mod Fit
+pub mod Lexing
 pub mod Numbers
 pub mod Places
+pub mod PrintedTokens
+pub mod ReadBack
+pub mod Values
+pub mod Written

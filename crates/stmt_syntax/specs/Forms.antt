@@ -1,10 +1,10 @@
 -- Rules of a grammar over tokens. A form says which tokens, up to which rest, spell which value; and how
 -- they are read: the value and the rest, or the tokens from the first one on that doesn't fit. It carries
 -- the proof that what is spelled is what is read.
-use Rattle.std.specs.Prelude.{◌≡◌, ℕ, zero, suc, ◌+◌, ◌<◌, ◌≤◌, Bool, true, false, List, [], ◌∷◌, ◌++◌, length, drop, if◌then◌else◌, Option, Some, None, Result, Ok, Err, ◌⊎◌, refl}
+use Rattle.std.specs.Prelude.{◌≡◌, ℕ, zero, suc, ◌+◌, ◌<◌, ◌≤◌, Bool, true, false, List, [], ◌∷◌, ◌++◌, length, drop, map, if◌then◌else◌, Option, Some, None, Result, Ok, Err, ◌⊎◌, refl}
 use Rattle.std.proofs.Common.{inl, inr, arith, ap, sym, ◌∙◌, append_assoc, length-append}
-use Rattle.std.proofs.lemmas.List.{append_cancel_right}
-use Rattle.stmt_syntax.specs.Patterns.{Pattern, fits}
+use Rattle.std.proofs.lemmas.List.{append_cancel_right, length-map}
+use Rattle.stmt_syntax.specs.Patterns.{Pattern, Word, Sign, Part, PartLike, InQuotes, Text, Number, fits}
 use Rattle.stmt_syntax.specs.declared.token.Token.{Token}
 
 -- what is read: a value and the tokens behind it, or the tokens from the fault on
@@ -44,11 +44,21 @@ abbrev pub with_rest : {A : Type 0} → List Token → Read A → Read A
 with_rest more (Ok (a, rest)) = Ok (a, more)
 with_rest more (Err rest) = Err more
 
--- A reader leaves an end of what it reads, and looks no further than at the first token that it leaves.
+-- a token without its place, and what is read of such tokens
+abbrev pub unplaced : Token → Token
+unplaced t = record { place = 0; kind = t.kind; text = t.text }
+
+abbrev pub read_unplaced : {A : Type 0} → Read A → Read A
+read_unplaced (Ok (a, rest)) = Ok (a, map unplaced rest)
+read_unplaced (Err rest) = Err (map unplaced rest)
+
+-- A reader leaves an end of what it reads, looks no further than at the first token that it leaves, and
+-- at no token's place.
 pub record Local {A : Type 0} (read : List Token → Read A) : Type 0 where
   pub suffix : (ts : List Token) → (before : List Token) × (ts ≡ before ++ rest_of (read ts))
   pub stops : (before : List Token) (t : Token) (rest more : List Token) → rest_of (read (before ++ t ∷ rest)) ≡ t ∷ rest
       → read (before ++ t ∷ more) ≡ with_rest (t ∷ more) (read (before ++ t ∷ rest))
+  pub blind : (ts : List Token) → read (map unplaced ts) ≡ read_unplaced (read ts)
 
 no_more : (before : List Token) (t : Token) (rest : List Token) → before ++ t ∷ rest ≡ t ∷ rest → before ≡ []
 no_more before t rest h = append_cancel_right before [] (t ∷ rest) h
@@ -65,10 +75,10 @@ refused_stops : {A : Type 0} (before : List Token) (t : Token) (rest more : List
 refused_stops before t rest more h = let e = no_more before t rest h in rw e refl
 
 pub gives_local : {A : Type 0} (a : A) → Local (λ ts. read_ok a ts)
-gives_local a = record { suffix = λ ts. ([], refl); stops = gives_stops a }
+gives_local a = record { suffix = λ ts. ([], refl); stops = gives_stops a; blind = λ ts. refl }
 
 pub refused_local : {A : Type 0} → Local (λ ts. read_err {A = A} ts)
-refused_local = record { suffix = λ ts. ([], refl); stops = refused_stops }
+refused_local = record { suffix = λ ts. ([], refl); stops = refused_stops; blind = λ ts. refl }
 
 ends_suffix : {A : Type 0} (a : A) (ts : List Token) → (before : List Token) × (ts ≡ before ++ rest_of (at_end a ts))
 ends_suffix a [] = ([], refl)
@@ -79,8 +89,12 @@ ends_stops : {A : Type 0} (a : A) (before : List Token) (t : Token) (rest more :
 ends_stops a [] t rest more h = refl
 ends_stops a (u ∷ us) t rest more h = let e = no_more (u ∷ us) t rest h in cc
 
+ends_blind : {A : Type 0} (a : A) (ts : List Token) → at_end a (map unplaced ts) ≡ read_unplaced (at_end a ts)
+ends_blind a [] = refl
+ends_blind a (t ∷ ts) = refl
+
 pub ends_local : {A : Type 0} (a : A) → Local (at_end a)
-ends_local a = record { suffix = ends_suffix a; stops = ends_stops a }
+ends_local a = record { suffix = ends_suffix a; stops = ends_stops a; blind = ends_blind a }
 
 -- a reader of a token and what follows it, or else another
 abbrev pub read_next : {A : Type 0} → Pattern → (List ℕ → List Token → Read A) → (List Token → Read A) → List Token → Read A
@@ -107,11 +121,29 @@ next_stops_at p goes otherwise lg lo [] t rest more false e h = rw e (lo.stops [
 next_stops_at p goes otherwise lg lo (u ∷ us) t rest more true e h = rw e ((lg u.text).stops us t rest more h)
 next_stops_at p goes otherwise lg lo (u ∷ us) t rest more false e h = rw e (lo.stops (u ∷ us) t rest more h)
 
+fits_blind : (p : Pattern) (t : Token) → fits p (unplaced t) ≡ fits p t
+fits_blind (Word w) t = refl
+fits_blind (Sign b) t = refl
+fits_blind Part t = refl
+fits_blind (PartLike w) t = refl
+fits_blind (InQuotes x) t = refl
+fits_blind Text t = refl
+fits_blind Number t = refl
+
+next_blind_at : {A : Type 0} (p : Pattern) (goes : List ℕ → List Token → Read A) (otherwise : List Token → Read A)
+    → ((x : List ℕ) → Local (goes x)) → Local otherwise → (ts : List Token) (b : Bool) → begins p ts ≡ b
+    → read_next p goes otherwise (map unplaced ts) ≡ read_unplaced (if b then goes (first_text ts) (drop 1 ts) else otherwise ts)
+next_blind_at p goes otherwise lg lo [] true e = cc
+next_blind_at p goes otherwise lg lo [] false e = lo.blind []
+next_blind_at p goes otherwise lg lo (t ∷ ts) true e = rw (fits_blind p t, e) ((lg t.text).blind ts)
+next_blind_at p goes otherwise lg lo (t ∷ ts) false e = rw (fits_blind p t, e) (lo.blind (t ∷ ts))
+
 pub next_local : {A : Type 0} (p : Pattern) (goes : List ℕ → List Token → Read A) (otherwise : List Token → Read A)
     → ((x : List ℕ) → Local (goes x)) → Local otherwise → Local (read_next p goes otherwise)
 next_local p goes otherwise lg lo = record {
   suffix = λ ts. next_suffix_at p goes otherwise lg lo ts (begins p ts) refl;
   stops = λ before t rest more h. next_stops_at p goes otherwise lg lo before t rest more (begins p (before ++ t ∷ rest)) refl h;
+  blind = λ ts. next_blind_at p goes otherwise lg lo ts (begins p ts) refl;
 }
 
 seq_suffix_at : {A B : Type 0} (g : A → List Token → Read B) → ((a : A) → Local (g a)) → (ts : List Token) (r : Read A)
@@ -153,11 +185,17 @@ seq_stops_at f g lf lg before t rest more (Ok (a, mid)) e h =
     let hg : rest_of (g a (s2.0 ++ t ∷ rest)) ≡ t ∷ rest = rw (← em) h in
     ap (and_then g) moved ∙ (lg a).stops s2.0 t rest more hg ∙ ap (λ (xs : List Token). with_rest (t ∷ more) (g a xs)) (sym em)
 
+seq_blind_at : {A B : Type 0} (g : A → List Token → Read B) → ((a : A) → Local (g a)) → (r : Read A)
+    → and_then g (read_unplaced r) ≡ read_unplaced (and_then g r)
+seq_blind_at g lg (Ok (a, mid)) = (lg a).blind mid
+seq_blind_at g lg (Err mid) = refl
+
 pub seq_local : {A B : Type 0} (f : List Token → Read A) (g : A → List Token → Read B) → Local f → ((a : A) → Local (g a))
     → Local (λ ts. and_then g (f ts))
 seq_local f g lf lg = record {
   suffix = λ ts. seq_suffix_at g lg ts (f ts) (lf.suffix ts);
   stops = λ before t rest more h. seq_stops_at f g lf lg before t rest more (f (before ++ t ∷ rest)) refl h;
+  blind = λ ts. rw (lf.blind ts) (seq_blind_at g lg (f ts));
 }
 
 pub record Form (A : Type 0) : Type 1 where
@@ -400,6 +438,7 @@ pub many_local : {S : Type 0} (f : S → Form (Option S)) → Repeats f → (s :
 many_local f ok s = record {
   suffix = λ ts. (times_local f (length ts) s).suffix ts;
   stops = many_stops f ok s;
+  blind = λ ts. rw (length-map ts unplaced) ((times_local f (length ts) s).blind ts);
 }
 
 -- a form that takes a token at least wherever it gives something

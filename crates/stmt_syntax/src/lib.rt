@@ -2,7 +2,8 @@
 //! and `REVOKE`, read and printed.
 //!
 //! **[`read`] gives the one statement that a text is, or the place of a token at which no statement
-//! fits, however the text goes on.** [`print`] writes a statement in one form.
+//! fits, however the text goes on.** [`print`] writes a statement in one form, and what it writes is read
+//! back as that statement.
 //!
 //! The grammar is a part of the one in the MySQL 8.0 Reference Manual, "Account Management
 //! Statements", with its tokens as in "String Literals" and "Schema Object Names". A text is first
@@ -12,9 +13,10 @@
 
 ghost use Rattle.std.specs.Prelude.{◌≡◌, ◌++◌, IfOk, OnOk, OnErr};
 ghost use Rattle.stmt_syntax.specs.Printing.{printed};
-ghost use Rattle.stmt_syntax.specs.Reading.{Accepts, IsReadable, Reads};
+ghost use Rattle.stmt_syntax.specs.Reading.{Accepts, IsReadable, IsText, Reads};
 
 mod cursor;
+pub mod laws;
 mod printing;
 mod rules;
 pub mod statement;
@@ -77,12 +79,14 @@ fn read_tokens(alloc: Global, text: &[u8]) -> Result<Statement, SyntaxFault>
 }
 
 /// Adds the text of a statement at the end of `out`: keywords in upper case, one space between tokens,
-/// names and strings in `'`. After `Memory` nothing was added.
+/// names and strings in `'`. What is added is read back as the same statement. After `Memory` nothing was
+/// added.
 ///
 /// The statement is one that [`read`] can give.
 pub fn print(statement: &Statement, out: &mut Out) -> Result<(), Memory>
     requires { IsReadable statement.now }
     ensures ok { OnOk result (out.new ≡ out.old ++ printed statement.now) }
+    ensures read_back { IsText statement.now (printed statement.now) }
     ensures err { OnErr result (out.new ≡ out.old) }
 {
     let mut text = out.beside();
