@@ -3,6 +3,8 @@ pub mod Fit
 pub mod Lexing
 pub mod Numbers
 pub mod Places
+pub mod Onward
+pub mod OnwardRules
 pub mod PrintedTokens
 pub mod ReadBack
 pub mod Values

@@ -1,9 +1,10 @@
 -- What is read is what the grammar says, and the place of a fault is where no statement fits.
-use Rattle.std.proofs.Common.{◌≡◌, ℕ, List, [], ◌∷◌, ◌++◌, length, IfOk, Result, Ok, Err, sym, ap, ◌∙◌}
+use Rattle.std.proofs.Common.{◌≡◌, ℕ, List, [], ◌∷◌, ◌++◌, length, IfOk, Result, Ok, Err, sym, ap, ◌∙◌, append_assoc}
 use Rattle.std.proofs.lemmas.List.{append-nil}
+use Rattle.stmt_syntax.proofs.OnwardRules.{goes_on}
 use Rattle.stmt_syntax.specs.Forms.{Read, gives_sound, read_err, read_ok, rest_of, with_rest}
 use Rattle.stmt_syntax.specs.Grammar.{statement}
-use Rattle.stmt_syntax.specs.Reading.{Accepts, IsPlace, IsReadable, IsText, NoneFits, Reads, place_of, reading}
+use Rattle.stmt_syntax.specs.Reading.{Accepts, GoesOn, IsPlace, IsReadable, IsText, NoneFits, Reads, place_of, reading}
 use Rattle.stmt_syntax.specs.Tokens.{tokens}
 use Rattle.stmt_syntax.specs.declared.statement.Statement.{Statement}
 use Rattle.stmt_syntax.specs.declared.SyntaxFault.{SyntaxFault}
@@ -36,7 +37,7 @@ place_fits text place rest h e =
     let s = statement.local.suffix (tokens text) in
     let split : tokens text ≡ s.0 ++ rest = s.1 ∙ ap (λ (r : Read Statement). s.0 ++ rest_of r) h in
     let read : statement.read (s.0 ++ rest) ≡ read_err rest = ap statement.read (sym split) ∙ h in
-    (s.0, rest, split, e, none_fits s.0 rest read)
+    (s.0, rest, split, e, goes_on s.0 rest (ap rest_of read), none_fits s.0 rest read)
 
 pub accepts : (text : List ℕ) (r : Result Statement SyntaxFault) → Reads text r → Accepts text r
 accepts text (Ok v) h = (statement.sound v (tokens text) [] h, one_statement text v h)
@@ -46,3 +47,32 @@ accepts text (Err syntax.Memory) h = h
 pub readable : (text : List ℕ) (r : Result Statement SyntaxFault) → Reads text r → IfOk r IsReadable
 readable text (Ok v) h = (text, statement.sound v (tokens text) [] h)
 readable text (Err fault) h = tt
+
+-- Of two beginnings of the same tokens, at which no statement fits and which go on, neither is longer.
+same_rest : (text : List ℕ) (front before1 rest1 before2 rest2 : List Token) → before1 ++ rest1 ≡ before2 ++ rest2
+    → GoesOn (front ++ before1) → NoneFits (front ++ before1) rest1 → GoesOn (front ++ before2) → NoneFits (front ++ before2) rest2 → rest1 ≡ rest2
+same_rest text front [] rest1 [] rest2 e g1 n1 g2 n2 = e
+same_rest text front [] rest1 (t ∷ b2) rest2 e g1 n1 (more, v, s) n2 =
+    let fits : NoneFits (front ++ []) (t ∷ (b2 ++ rest2)) = rw e at n1 in
+    let none : front ++ [] ≡ front = append-nil front in
+    let fits2 : NoneFits front (t ∷ (b2 ++ rest2)) = rw none at fits in
+    let split : (front ++ t ∷ b2) ++ more ≡ front ++ (t ∷ (b2 ++ more)) = append_assoc front (t ∷ b2) more in
+    absurd (fits2 v (b2 ++ more) (rw split at s))
+same_rest text front (t ∷ b1) rest1 [] rest2 e (more, v, s) n1 g2 n2 =
+    let back : rest2 ≡ t ∷ (b1 ++ rest1) = sym e in
+    let fits : NoneFits (front ++ []) (t ∷ (b1 ++ rest1)) = rw back at n2 in
+    let none : front ++ [] ≡ front = append-nil front in
+    let fits2 : NoneFits front (t ∷ (b1 ++ rest1)) = rw none at fits in
+    let split : (front ++ t ∷ b1) ++ more ≡ front ++ (t ∷ (b1 ++ more)) = append_assoc front (t ∷ b1) more in
+    absurd (fits2 v (b1 ++ more) (rw split at s))
+same_rest text front (t ∷ b1) rest1 (u ∷ b2) rest2 e g1 n1 g2 n2 =
+    let same : t ≡ u = cc in
+    let tails : b1 ++ rest1 ≡ b2 ++ rest2 = cc in
+    let move1 : front ++ t ∷ b1 ≡ (front ++ t ∷ []) ++ b1 = sym (append_assoc front (t ∷ []) b1) in
+    let move2 : front ++ u ∷ b2 ≡ (front ++ t ∷ []) ++ b2 = rw (← same) (sym (append_assoc front (t ∷ []) b2)) in
+    same_rest text (front ++ t ∷ []) b1 rest1 b2 rest2 tails (rw move1 at g1) (rw move1 at n1) (rw move2 at g2) (rw move2 at n2)
+
+pub one_place : (text : List ℕ) (left right : ℕ) → IsPlace text left → IsPlace text right → left ≡ right
+one_place text left right (before1, rest1, e1, p1, g1, n1) (before2, rest2, e2, p2, g2, n2) =
+    let same : rest1 ≡ rest2 = same_rest text [] before1 rest1 before2 rest2 (sym e1 ∙ e2) g1 n1 g2 n2 in
+    p1 ∙ ap (place_of (length text)) same ∙ sym p2

@@ -40,9 +40,15 @@ abbrev pub NoneFits : List Token → List Token → Type 0
 NoneFits before [] = (v : Statement) → statement.spells v before [] → ⊥
 NoneFits before (t ∷ rest) = (v : Statement) (more : List Token) → statement.spells v (before ++ t ∷ more) [] → ⊥
 
--- the place of a token at which no statement fits, or the length of a text that ends too early
+-- some statement begins with these tokens
+abbrev pub GoesOn : List Token → Type 0
+GoesOn before = (more : List Token) × (v : Statement) × statement.spells v (before ++ more) []
+
+-- The place of the first token at which no statement fits, or the length of a text that ends too early: what
+-- stands before goes on to some statement.
 abbrev pub IsPlace : List ℕ → ℕ → Type 0
-IsPlace text place = (before rest : List Token) × (tokens text ≡ before ++ rest) × (place ≡ place_of (length text) rest) × NoneFits before rest
+IsPlace text place =
+    (before rest : List Token) × (tokens text ≡ before ++ rest) × (place ≡ place_of (length text) rest) × GoesOn before × NoneFits before rest
 
 -- The text is the statement that is read, and no other; or no statement fits at the place.
 abbrev pub Accepts : List ℕ → Result Statement SyntaxFault → Type 0

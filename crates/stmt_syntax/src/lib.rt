@@ -1,8 +1,8 @@
 //! Account statements as texts: `CREATE USER`, `ALTER USER`, `DROP USER`, `FLUSH PRIVILEGES`, `GRANT`
 //! and `REVOKE`, read and printed.
 //!
-//! **[`read`] gives the one statement that a text is, or the place of a token at which no statement
-//! fits, however the text goes on.** [`print`] writes a statement in one form, and what it writes is read
+//! **[`read`] gives the one statement that a text is, or the place of the first token at which no statement
+//! fits: what stands before it goes on to some statement, and with it the text goes on to none.** [`print`] writes a statement in one form, and what it writes is read
 //! back as that statement.
 //!
 //! The grammar is a part of the one in the MySQL 8.0 Reference Manual, "Account Management
@@ -33,8 +33,8 @@ use thiserror::Error;
 /// Why a text is read to no statement.
 #[derive(Debug, PartialEq, Eq, Drop, Error)]
 pub enum SyntaxFault {
-    /// No statement fits at the token that begins at `place`, counted from 0: at the text's length
-    /// where the text ends too early.
+    /// The token that begins at `place`, counted from 0, is the first at which no statement fits: at the
+    /// text's length where the text ends too early.
     #[error("no statement fits at place {place}")]
     At { place: usize },
     /// No memory was to be had.
