@@ -1,11 +1,3 @@
-pub mod Loops
-pub mod Fit
-pub mod Lexing
-pub mod Numbers
 pub mod Places
-pub mod Onward
-pub mod OnwardRules
 pub mod PrintedTokens
 pub mod ReadBack
-pub mod Values
-pub mod Written

@@ -1,15 +1,17 @@
 -- What is read is what the grammar says, and the place of a fault is where no statement fits.
-use Rattle.std.proofs.Common.{◌≡◌, ℕ, List, [], ◌∷◌, ◌++◌, length, IfOk, Result, Ok, Err, sym, ap, ◌∙◌, append_assoc}
+use Rattle.std.proofs.Common.{◌≡◌, ℕ, List, [], ◌∷◌, ◌++◌, length, IfOk, Result, Ok, Err, sym, ap, ◌∙◌, append_assoc, refl}
 use Rattle.std.proofs.lemmas.List.{append-nil}
-use Rattle.stmt_syntax.proofs.OnwardRules.{goes_on}
-use Rattle.stmt_syntax.specs.Forms.{Read, gives_sound, read_err, read_ok, rest_of, with_rest}
-use Rattle.stmt_syntax.specs.Grammar.{statement}
-use Rattle.stmt_syntax.specs.Reading.{Accepts, GoesOn, IsPlace, IsReadable, IsText, NoneFits, Reads, place_of, reading}
-use Rattle.stmt_syntax.specs.Tokens.{tokens}
-use Rattle.stmt_syntax.specs.declared.statement.Statement.{Statement}
+use Rattle.stmt_rules.proofs.Onward.{AtEnd, Completes, completed}
+use Rattle.stmt_rules.proofs.OnwardRules.{statement_lively}
+use Rattle.stmt_rules.specs.Forms.{Read, gives_sound, read_err, read_ok, rest_of, with_rest}
+use Rattle.stmt_rules.specs.Grammar.{statement}
+use Rattle.stmt_syntax.specs.Reading.{Accepts, GoesOn, IsPlace, IsReadable, IsText, NoneFits, Reads, reading}
+use Rattle.stmt_rules.specs.Taking.{place_of}
+use Rattle.stmt_tokens.specs.Tokens.{tokens}
+use Rattle.stmt_rules.specs.declared.statement.Statement.{Statement}
 use Rattle.stmt_syntax.specs.declared.SyntaxFault.{SyntaxFault}
 use Rattle.stmt_syntax.specs.declared.SyntaxFault.TheVariants as syntax
-use Rattle.stmt_syntax.specs.declared.token.Token.{Token}
+use Rattle.stmt_tokens.specs.declared.token.Token.{Token}
 
 pub one_statement : (text : List ℕ) (v : Statement) → reading text ≡ Ok (v, []) → (w : Statement) → IsText w text → w ≡ v
 one_statement text v h w s =
@@ -31,6 +33,14 @@ none_fits before (t ∷ rest) h = λ v more s.
 pub not_text : (text : List ℕ) (rest : List Token) → reading text ≡ Err rest → (w : Statement) → IsText w text → ⊥
 not_text text rest h w s =
     let e : read_err rest ≡ read_ok w [] = sym h ∙ statement.complete w (tokens text) [] s in cc
+
+-- what stands before the end or the fault of a reading goes on to a statement
+pub goes_on : (before rest : List Token) → rest_of (statement.read (before ++ rest)) ≡ rest → GoesOn before
+goes_on before rest h =
+    let c : Completes AtEnd statement before = completed AtEnd statement statement_lively before rest h in
+    let read : statement.read (before ++ (c.more ++ [])) ≡ Ok (c.value, []) = c.reads [] refl in
+    let same : c.more ++ [] ≡ c.more = append-nil c.more in
+    (c.more, c.value, statement.sound c.value (before ++ c.more) [] (rw same at read))
 
 pub place_fits : (text : List ℕ) (place : ℕ) (rest : List Token) → reading text ≡ Err rest → place ≡ place_of (length text) rest → IsPlace text place
 place_fits text place rest h e =

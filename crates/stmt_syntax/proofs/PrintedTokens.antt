@@ -1,32 +1,33 @@
 -- The tokens of the text that a statement is printed as, part by part.
-use Rattle.std.proofs.Common.{◌≡◌, ℕ, ◌<◌, Bool, true, false, List, [], ◌∷◌, ◌++◌, flat_map, codes, refl, sym, ap, ◌∙◌, Option, Some, None, map, arith}
+use Rattle.std.proofs.Common.{◌≡◌, ℕ, Bool, true, false, List, [], ◌∷◌, ◌++◌, flat_map, codes, refl, Option, Some, None, arith}
 use Rattle.std.specs.Fmt.{decimal}
 use Rattle.lg_base.specs.declared.names.Host.{Host}
 use Rattle.lg_base.specs.declared.names.Host.TheVariants.{Localhost, Any}
 use Rattle.lg_base.specs.declared.names.Name.{Name}
-use Rattle.stmt_syntax.proofs.Fit.{FitBound, FitChange, FitCount, FitExpire, FitNumber, FitOptions, FitPlace, FitStatement, FitTime}
-use Rattle.stmt_syntax.proofs.Lexing.{Body, IsFresh, Lead, Tail, Whole, at_parts, blank_parts, body_of, body_then, lead_after, lead_of, lead_then, scanned, shapes, tail_none, tail_of, tail_then, whole_lead, whole_of, whole_then}
-use Rattle.stmt_syntax.proofs.Written.{decimal_body, quoted_body, sign, text, word}
-use Rattle.stmt_syntax.specs.Forms.{unplaced}
-use Rattle.stmt_syntax.specs.Printing.{and_factor_text, attempts_text, auth_text, change_text, expire_text, factor_text, history_text, host_text, lock_text, lock_time_text, method_text, name_text, optional_auth_text, options_text, password_text, printed, privileges_text, privileges_words, quoted, retain_text, reuse_text, target_text}
-use Rattle.stmt_syntax.specs.Tokens.{finished, opened, stepped, tokens}
-use Rattle.stmt_syntax.specs.declared.statement.Auth.{Auth}
-use Rattle.stmt_syntax.specs.declared.statement.Bound.{Bound}
-use Rattle.stmt_syntax.specs.declared.statement.Bound.TheVariants as bounds
-use Rattle.stmt_syntax.specs.declared.statement.Change.{Change}
-use Rattle.stmt_syntax.specs.declared.statement.Change.TheVariants.{Nothing, Password, Discard, Add, Modify, DropFactor}
-use Rattle.stmt_syntax.specs.declared.statement.Expire.{Expire}
-use Rattle.stmt_syntax.specs.declared.statement.Expire.TheVariants as expires
-use Rattle.stmt_syntax.specs.declared.statement.FactorAuth.{FactorAuth}
-use Rattle.stmt_syntax.specs.declared.statement.Options.{Options}
-use Rattle.stmt_syntax.specs.declared.statement.Privileges.{Privileges}
-use Rattle.stmt_syntax.specs.declared.statement.Statement.{Statement}
-use Rattle.stmt_syntax.specs.declared.statement.Statement.TheVariants.{Create, Alter, Drop, Flush, Grant, Revoke}
-use Rattle.stmt_syntax.specs.declared.statement.Target.{Target}
-use Rattle.stmt_syntax.specs.declared.statement.Target.TheVariants.{Own, Named}
-use Rattle.stmt_syntax.specs.declared.statement.Time.{Time}
-use Rattle.stmt_syntax.specs.declared.statement.Time.TheVariants as time
-use Rattle.stmt_syntax.specs.declared.token.Token.{Token}
+use Rattle.stmt_rules.proofs.Fit.{FitBound, FitCount, FitExpire, FitNumber, FitOptions, FitPlace, FitTime}
+use Rattle.stmt_tokens.proofs.Lexing.{Body, IsFresh, Lead, Tail, Whole, at_parts, blank_parts, body_of, body_then, lead_after, lead_of, lead_then, scanned, shapes, tail_none, tail_of, tail_then, whole_lead, whole_of, whole_then}
+use Rattle.stmt_tokens.proofs.Written.{decimal_body, quoted_body}
+use Rattle.stmt_tokens.proofs.Lexing.{sign, text, word}
+use Rattle.stmt_syntax.specs.Printing.{and_factor_text, attempts_text, auth_text, change_text, expire_text, factor_text, history_text, host_text, lock_text, lock_time_text, method_text, name_text, optional_auth_text, options_text, password_text, printed, privileges_text, privileges_words, retain_text, reuse_text, target_text}
+use Rattle.stmt_tokens.specs.Quoting.{quoted}
+use Rattle.stmt_tokens.specs.Tokens.{finished, opened, stepped}
+use Rattle.stmt_rules.specs.declared.statement.Auth.{Auth}
+use Rattle.stmt_rules.specs.declared.statement.Bound.{Bound}
+use Rattle.stmt_rules.specs.declared.statement.Bound.TheVariants as bounds
+use Rattle.stmt_rules.specs.declared.statement.Change.{Change}
+use Rattle.stmt_rules.specs.declared.statement.Change.TheVariants.{Nothing, Password, Discard, Add, Modify, DropFactor}
+use Rattle.stmt_rules.specs.declared.statement.Expire.{Expire}
+use Rattle.stmt_rules.specs.declared.statement.Expire.TheVariants as expires
+use Rattle.stmt_rules.specs.declared.statement.FactorAuth.{FactorAuth}
+use Rattle.stmt_rules.specs.declared.statement.Options.{Options}
+use Rattle.stmt_rules.specs.declared.statement.Privileges.{Privileges}
+use Rattle.stmt_rules.specs.declared.statement.Statement.{Statement}
+use Rattle.stmt_rules.specs.declared.statement.Statement.TheVariants.{Create, Alter, Drop, Flush, Grant, Revoke}
+use Rattle.stmt_rules.specs.declared.statement.Target.{Target}
+use Rattle.stmt_rules.specs.declared.statement.Target.TheVariants.{Own, Named}
+use Rattle.stmt_rules.specs.declared.statement.Time.{Time}
+use Rattle.stmt_rules.specs.declared.statement.Time.TheVariants as time
+use Rattle.stmt_tokens.specs.declared.token.Token.{Token}
 
 abbrev pub host_tokens : Host → List Token
 host_tokens Localhost = sign 64 ∷ text (codes "localhost") ∷ []

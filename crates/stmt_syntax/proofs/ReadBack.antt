@@ -1,5 +1,5 @@
 -- What is printed of a statement is read back.
-use Rattle.std.proofs.Common.{◌≡◌, ℕ, zero, suc, ◌==◌, ◌<◌, ◌≤◌, ◌||◌, ◌&&◌, Bool, true, false, List, [], ◌∷◌, ◌++◌, length, map, codes, min, Option, Some, None, Result, Ok, Err, refl, sym, ap, ◌∙◌, ◌⊎◌, inl, inr, append_assoc, arith, if◌then◌else◌, drop}
+use Rattle.std.proofs.Common.{◌≡◌, ℕ, zero, suc, ◌==◌, ◌<◌, ◌≤◌, ◌||◌, Bool, true, false, List, [], ◌∷◌, ◌++◌, length, map, codes, Option, Some, None, Ok, Err, refl, sym, ap, ◌∙◌, inl, inr, append_assoc, arith, if◌then◌else◌, drop}
 use Rattle.std.proofs.lemmas.Bool.Decides.{nat_tests}
 use Rattle.std.proofs.lemmas.Fmt.{decimal_digit}
 use Rattle.std.proofs.lemmas.List.{append-nil}
@@ -9,33 +9,34 @@ use Rattle.std.specs.List.{list_all}
 use Rattle.lg_base.specs.declared.names.Host.{Host}
 use Rattle.lg_base.specs.declared.names.Host.TheVariants.{Localhost, Any}
 use Rattle.lg_base.specs.declared.names.Name.{Name}
-use Rattle.stmt_syntax.proofs.Fit.{FitAuth, FitBound, FitChange, FitCount, FitExpire, FitNumber, FitOptions, FitOwn, FitParts, FitPassword, FitPlace, FitStatement, FitTime, FitWays}
+use Rattle.stmt_rules.proofs.Fit.{FitBound, FitChange, FitCount, FitExpire, FitNumber, FitOptions, FitOwn, FitParts, FitPassword, FitPlace, FitStatement, FitTime, FitWays}
 use Rattle.stmt_syntax.proofs.PrintedTokens.{FitNumbers, FitText, attempts_tokens, auth_tokens, change_tokens, expire_tokens, factor_tokens, factors_tokens, from_tokens, history_tokens, host_tokens, lock_time_tokens, lock_tokens, method_tokens, name_tokens, numbered_tokens, optional_auth_tokens, options_tokens, password_tokens, printed_shapes, privileges_tokens, retain_tokens, reuse_tokens, statement_tokens, target_tokens, to_tokens}
-use Rattle.stmt_syntax.proofs.Values.{statement_fits}
-use Rattle.stmt_syntax.proofs.Written.{both, decimal_digits, sign, text, word}
-use Rattle.stmt_syntax.specs.Forms.{Form, Read, Repeats, begins, first_text, gives, gives_sound, many, many_complete, many_sound, TimesSpell, and_then, next, read_ok, read_unplaced, refused, unplaced}
-use Rattle.stmt_syntax.specs.Grammar.{account_clause, account_option, alter, alter_named, alter_own, attempts_clause, auth, bound, bound_in_days, change, create, discarded, dropped, expire, factor, factors, flushed, further_options, further_privilege, grant, host, is_nothing, lock_time, lock_time_clause, name, name_of, no_options, numbered, on_all, option, option_repeats, options, over, own_change, password, password_clause, password_option, privilege, privilege_repeats, privileges, retained, revoke, statement, target, ways}
-use Rattle.stmt_syntax.specs.Patterns.{Pattern, Word, Sign, Part, Text, Number, digits_from, fits, is_same, number_of}
+use Rattle.stmt_rules.proofs.Values.{statement_fits}
+use Rattle.stmt_tokens.proofs.Written.{both, decimal_digits}
+use Rattle.stmt_tokens.proofs.Lexing.{sign, text, word}
+use Rattle.stmt_rules.specs.Forms.{Form, Read, Repeats, begins, first_text, gives, gives_sound, many, many_complete, many_sound, TimesSpell, and_then, next, read_ok, read_unplaced, refused}
+use Rattle.stmt_rules.specs.Grammar.{account_clause, account_option, alter, alter_named, alter_own, attempts_clause, auth, bound, bound_in_days, change, create, discarded, dropped, expire, factor, factors, flushed, further_options, further_privilege, grant, host, is_nothing, lock_time, lock_time_clause, name, no_options, numbered, on_all, option, option_repeats, options, over, own_change, password, password_clause, password_option, privilege, privilege_repeats, privileges, retained, revoke, statement, target, ways}
+use Rattle.stmt_tokens.specs.Patterns.{Pattern, Word, Sign, Number, digits_from, fits, is_same, number_of}
 use Rattle.stmt_syntax.specs.Printing.{printed}
 use Rattle.stmt_syntax.specs.Reading.{IsReadable, IsText}
-use Rattle.stmt_syntax.specs.Tokens.{tokens}
-use Rattle.stmt_syntax.specs.declared.statement.Auth.{Auth}
-use Rattle.stmt_syntax.specs.declared.statement.Bound.{Bound}
-use Rattle.stmt_syntax.specs.declared.statement.Bound.TheVariants as bounds
-use Rattle.stmt_syntax.specs.declared.statement.Change.{Change}
-use Rattle.stmt_syntax.specs.declared.statement.Change.TheVariants.{Nothing, Password, Discard, Add, Modify, DropFactor}
-use Rattle.stmt_syntax.specs.declared.statement.Expire.{Expire}
-use Rattle.stmt_syntax.specs.declared.statement.Expire.TheVariants as expires
-use Rattle.stmt_syntax.specs.declared.statement.FactorAuth.{FactorAuth}
-use Rattle.stmt_syntax.specs.declared.statement.Options.{Options}
-use Rattle.stmt_syntax.specs.declared.statement.Privileges.{Privileges}
-use Rattle.stmt_syntax.specs.declared.statement.Statement.{Statement}
-use Rattle.stmt_syntax.specs.declared.statement.Statement.TheVariants.{Create, Alter, Drop, Flush, Grant, Revoke}
-use Rattle.stmt_syntax.specs.declared.statement.Target.{Target}
-use Rattle.stmt_syntax.specs.declared.statement.Target.TheVariants.{Own, Named}
-use Rattle.stmt_syntax.specs.declared.statement.Time.{Time}
-use Rattle.stmt_syntax.specs.declared.statement.Time.TheVariants as time
-use Rattle.stmt_syntax.specs.declared.token.Token.{Token}
+use Rattle.stmt_tokens.specs.Tokens.{tokens, unplaced}
+use Rattle.stmt_rules.specs.declared.statement.Auth.{Auth}
+use Rattle.stmt_rules.specs.declared.statement.Bound.{Bound}
+use Rattle.stmt_rules.specs.declared.statement.Bound.TheVariants as bounds
+use Rattle.stmt_rules.specs.declared.statement.Change.{Change}
+use Rattle.stmt_rules.specs.declared.statement.Change.TheVariants.{Nothing, Password, Discard, Add, Modify, DropFactor}
+use Rattle.stmt_rules.specs.declared.statement.Expire.{Expire}
+use Rattle.stmt_rules.specs.declared.statement.Expire.TheVariants as expires
+use Rattle.stmt_rules.specs.declared.statement.FactorAuth.{FactorAuth}
+use Rattle.stmt_rules.specs.declared.statement.Options.{Options}
+use Rattle.stmt_rules.specs.declared.statement.Privileges.{Privileges}
+use Rattle.stmt_rules.specs.declared.statement.Statement.{Statement}
+use Rattle.stmt_rules.specs.declared.statement.Statement.TheVariants.{Create, Alter, Drop, Flush, Grant, Revoke}
+use Rattle.stmt_rules.specs.declared.statement.Target.{Target}
+use Rattle.stmt_rules.specs.declared.statement.Target.TheVariants.{Own, Named}
+use Rattle.stmt_rules.specs.declared.statement.Time.{Time}
+use Rattle.stmt_rules.specs.declared.statement.Time.TheVariants as time
+use Rattle.stmt_tokens.specs.declared.token.Token.{Token}
 
 -- no such word begins these tokens
 abbrev Lacks : List ℕ → List Token → Type 0

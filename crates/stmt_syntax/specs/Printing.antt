@@ -1,37 +1,26 @@
 -- The text that a statement is printed as: keywords in upper case, one space between tokens, names and
 -- strings in ', options in the order of their fields.
-use Rattle.std.specs.Prelude.{ℕ, ◌==◌, Bool, true, false, List, [], ◌∷◌, ◌++◌, flat_map, codes, decimal, if◌then◌else◌, Option, Some, None}
+use Rattle.std.specs.Prelude.{ℕ, Bool, true, false, List, [], ◌++◌, flat_map, codes, decimal, Option, Some, None}
 use Rattle.lg_base.specs.declared.names.Host.{Host}
 use Rattle.lg_base.specs.declared.names.Host.TheVariants.{Localhost, Any}
 use Rattle.lg_base.specs.declared.names.Name.{Name}
-use Rattle.stmt_syntax.specs.declared.statement.Auth.{Auth}
-use Rattle.stmt_syntax.specs.declared.statement.Bound.{Bound}
-use Rattle.stmt_syntax.specs.declared.statement.Bound.TheVariants as bounds
-use Rattle.stmt_syntax.specs.declared.statement.Change.{Change}
-use Rattle.stmt_syntax.specs.declared.statement.Change.TheVariants.{Nothing, Password, Discard, Add, Modify, DropFactor}
-use Rattle.stmt_syntax.specs.declared.statement.Expire.{Expire}
-use Rattle.stmt_syntax.specs.declared.statement.Expire.TheVariants as expires
-use Rattle.stmt_syntax.specs.declared.statement.FactorAuth.{FactorAuth}
-use Rattle.stmt_syntax.specs.declared.statement.Options.{Options}
-use Rattle.stmt_syntax.specs.declared.statement.Privileges.{Privileges}
-use Rattle.stmt_syntax.specs.declared.statement.Statement.{Statement}
-use Rattle.stmt_syntax.specs.declared.statement.Statement.TheVariants.{Create, Alter, Drop, Flush, Grant, Revoke}
-use Rattle.stmt_syntax.specs.declared.statement.Target.{Target}
-use Rattle.stmt_syntax.specs.declared.statement.Target.TheVariants.{Own, Named}
-use Rattle.stmt_syntax.specs.declared.statement.Time.{Time}
-use Rattle.stmt_syntax.specs.declared.statement.Time.TheVariants as time
-
--- a byte within quotes
-abbrev pub written_byte : ℕ → List ℕ
-written_byte b =
-    if b == 39 then 39 ∷ 39 ∷ []
-    else (if b == 92 then 92 ∷ 92 ∷ []
-    else (if b == 0 then 92 ∷ 48 ∷ []
-    else b ∷ []))
-
--- a text in quotes
-unfoldable pub quoted : List ℕ → List ℕ
-quoted x = 39 ∷ [] ++ flat_map written_byte x ++ 39 ∷ []
+use Rattle.stmt_tokens.specs.Quoting.{quoted}
+use Rattle.stmt_rules.specs.declared.statement.Auth.{Auth}
+use Rattle.stmt_rules.specs.declared.statement.Bound.{Bound}
+use Rattle.stmt_rules.specs.declared.statement.Bound.TheVariants as bounds
+use Rattle.stmt_rules.specs.declared.statement.Change.{Change}
+use Rattle.stmt_rules.specs.declared.statement.Change.TheVariants.{Nothing, Password, Discard, Add, Modify, DropFactor}
+use Rattle.stmt_rules.specs.declared.statement.Expire.{Expire}
+use Rattle.stmt_rules.specs.declared.statement.Expire.TheVariants as expires
+use Rattle.stmt_rules.specs.declared.statement.FactorAuth.{FactorAuth}
+use Rattle.stmt_rules.specs.declared.statement.Options.{Options}
+use Rattle.stmt_rules.specs.declared.statement.Privileges.{Privileges}
+use Rattle.stmt_rules.specs.declared.statement.Statement.{Statement}
+use Rattle.stmt_rules.specs.declared.statement.Statement.TheVariants.{Create, Alter, Drop, Flush, Grant, Revoke}
+use Rattle.stmt_rules.specs.declared.statement.Target.{Target}
+use Rattle.stmt_rules.specs.declared.statement.Target.TheVariants.{Own, Named}
+use Rattle.stmt_rules.specs.declared.statement.Time.{Time}
+use Rattle.stmt_rules.specs.declared.statement.Time.TheVariants as time
 
 abbrev pub host_text : Host → List ℕ
 host_text Localhost = codes "@'localhost'"

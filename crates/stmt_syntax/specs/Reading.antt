@@ -1,26 +1,13 @@
 -- What is read of a text: its tokens, from the first on, by the grammar.
 use Rattle.std.specs.Prelude.{◌≡◌, ℕ, List, [], ◌∷◌, ◌++◌, length, Result, Ok, Err}
-use Rattle.stmt_syntax.specs.Forms.{Form, Read}
-use Rattle.stmt_syntax.specs.Tokens.{tokens}
-use Rattle.stmt_syntax.specs.Grammar.{statement}
-use Rattle.stmt_syntax.specs.declared.statement.Statement.{Statement}
-use Rattle.stmt_syntax.specs.declared.cursor.Fault.{Fault}
-use Rattle.stmt_syntax.specs.declared.cursor.Fault.TheVariants as fault
+use Rattle.stmt_rules.specs.Forms.{Read}
+use Rattle.stmt_rules.specs.Taking.{place_of}
+use Rattle.stmt_tokens.specs.Tokens.{tokens}
+use Rattle.stmt_rules.specs.Grammar.{statement}
+use Rattle.stmt_rules.specs.declared.statement.Statement.{Statement}
 use Rattle.stmt_syntax.specs.declared.SyntaxFault.{SyntaxFault}
 use Rattle.stmt_syntax.specs.declared.SyntaxFault.TheVariants as syntax
-use Rattle.stmt_syntax.specs.declared.token.Token.{Token}
-
--- A call reads by a form: the value, with the cursor behind it; or the fault, with the cursor at it.
--- Where memory runs out nothing is said of the cursor.
-abbrev pub Takes : {A : Type 0} → Form A → List Token → List Token → Result A Fault → Type 0
-Takes form old new (Ok v) = form.read old ≡ Ok (v, new)
-Takes form old new (Err fault.Here) = form.read old ≡ Err new
-Takes form old new (Err fault.Memory) = Unit {0}
-
--- the place of the first of these tokens, or else the text's length
-abbrev pub place_of : ℕ → List Token → ℕ
-place_of size [] = size
-place_of size (t ∷ ts) = t.place
+use Rattle.stmt_tokens.specs.declared.token.Token.{Token}
 
 -- the statement and what is behind it, or the fault
 abbrev pub reading : List ℕ → Read Statement

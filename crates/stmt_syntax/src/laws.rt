@@ -3,7 +3,7 @@
 ghost use Rattle.std.specs.Prelude.{◌≡◌, ℕ, List};
 ghost use Rattle.stmt_syntax.specs.Printing.{printed};
 ghost use Rattle.stmt_syntax.specs.Reading.{IsPlace, IsReadable, IsText};
-ghost use Rattle.stmt_syntax.specs.declared.statement.Statement.{Statement};
+ghost use Rattle.stmt_rules.specs.declared.statement.Statement.{Statement};
 
 /// What is printed of a statement that some text is, is a text of that statement.
 pub fn read_back()

@@ -2,32 +2,29 @@
 //! and `REVOKE`, read and printed.
 //!
 //! **[`read`] gives the one statement that a text is, or the place of the first token at which no statement
-//! fits: what stands before it goes on to some statement, and with it the text goes on to none.** [`print`] writes a statement in one form, and what it writes is read
-//! back as that statement.
+//! fits: what stands before it goes on to some statement, and with it the text goes on to none.** [`print`]
+//! writes a statement in one form, and what it writes is read back as that statement.
 //!
 //! The grammar is a part of the one in the MySQL 8.0 Reference Manual, "Account Management
 //! Statements", with its tokens as in "String Literals" and "Schema Object Names". A text is first
-//! cut into tokens (`token`), and the tokens are then read one rule of the grammar after another
-//! (`rules`). `lg_base` and `thiserror` stand below.
+//! cut into tokens (`stmt_tokens`), and the tokens are then read one rule of the grammar after another
+//! (`stmt_rules`). These two, `lg_base` and `thiserror` stand below.
 #![tactic(auto)]
 
 ghost use Rattle.std.specs.Prelude.{◌≡◌, ◌++◌, IfOk, OnOk, OnErr};
 ghost use Rattle.stmt_syntax.specs.Printing.{printed};
 ghost use Rattle.stmt_syntax.specs.Reading.{Accepts, IsReadable, IsText, Reads};
 
-mod cursor;
 pub mod laws;
 mod printing;
-mod rules;
-pub mod statement;
-mod token;
 
-use cursor::{Cursor, Fault};
 use lg_base::{Memory, Out};
-pub use statement::{
+use std::alloc::Global;
+use stmt_rules::{Cursor, Fault};
+pub use stmt_rules::{
     Auth, Bound, Change, Expire, FactorAuth, Options, Privileges, Statement, Target, Time,
 };
-use std::alloc::Global;
+use stmt_tokens::tokens;
 use thiserror::Error;
 
 /// Why a text is read to no statement.
@@ -67,7 +64,7 @@ pub fn read(alloc: Global, text: &[u8]) -> Result<Statement, SyntaxFault>
 fn read_tokens(alloc: Global, text: &[u8]) -> Result<Statement, SyntaxFault>
     ensures { Reads text.now result }
 {
-    let tokens = token::tokens(alloc, text)?;
+    let tokens = tokens(alloc, text)?;
     let mut cursor = Cursor::new(tokens.as_slice());
     match cursor.statement(alloc) {
         Ok(statement) => Ok(statement),

@@ -2,12 +2,13 @@
 //! options in the order of their fields.
 
 ghost use Rattle.std.specs.Prelude.{◌≡◌, ◌++◌, OnOk, codes, decimal, flat_map};
-ghost use Rattle.stmt_syntax.specs.Printing.{and_factor_text, attempts_text, auth_text, change_text, expire_text, factor_text, history_text, lock_text, lock_time_text, method_text, name_text, optional_auth_text, options_text, password_text, printed, privileges_text, quoted, retain_text, reuse_text, target_text, written_byte};
+ghost use Rattle.stmt_syntax.specs.Printing.{and_factor_text, attempts_text, auth_text, change_text, expire_text, factor_text, history_text, lock_text, lock_time_text, method_text, name_text, optional_auth_text, options_text, password_text, printed, privileges_text, retain_text, reuse_text, target_text};
+ghost use Rattle.stmt_tokens.specs.Quoting.{quoted, written_byte};
 
-use crate::statement::{
+use lg_base::{Bytes, Host, Memory, Name, Out};
+use stmt_rules::{
     Auth, Bound, Change, Expire, FactorAuth, Options, Privileges, Statement, Target, Time,
 };
-use lg_base::{Bytes, Host, Memory, Name, Out};
 
 /// A byte within quotes.
 fn put_byte(byte: u8, out: &mut Out) -> Result<(), Memory>
@@ -22,7 +23,7 @@ fn put_byte(byte: u8, out: &mut Out) -> Result<(), Memory>
 }
 
 /// A text in quotes.
-#[tactic(auto, unfolding(crate::specs::Printing::quoted))]
+#[tactic(auto, unfolding(stmt_tokens::specs::Quoting::quoted))]
 fn put_quoted(text: &[u8], out: &mut Out) -> Result<(), Memory>
     ensures { OnOk result (out.new ≡ out.old ++ quoted text.now) }
 {

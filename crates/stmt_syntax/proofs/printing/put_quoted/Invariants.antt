@@ -1,5 +1,5 @@
 use Rattle.std.proofs.Common.{◌≡◌, ◌++◌, ◌∷◌, [], take, flat_map}
-use Rattle.stmt_syntax.specs.Printing.{written_byte}
+use Rattle.stmt_tokens.specs.Quoting.{written_byte}
 use Rattle.stmt_syntax.proofs.printing.put_quoted.Given as goal
 
 abbrev pub invariant-loop-byte : goal.invariant-loop-byte

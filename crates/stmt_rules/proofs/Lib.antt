@@ -1,0 +1,5 @@
+pub mod Fit
+pub mod Loops
+pub mod Onward
+pub mod OnwardRules
+pub mod Values
