@@ -1,6 +1,9 @@
 //! Statements as texts: what is read of them, what is refused at which place, and what is printed.
 
+mod places;
+
 use super::*;
+use places::{Sample, Spelled};
 use std::process::Abort;
 use std::test::Fail;
 
@@ -323,4 +326,288 @@ fn places_of_bad_tokens(rt: HostRuntime) {
     refuses(&rt, alloc, b"DROP USER a 'b", 12);
     refuses(&rt, alloc, b"DROP USER 'a'' ;", 10);
     refuses(&rt, alloc, b"FLUSH PRIVILEGES; #", 18);
+}
+
+// ## Places near sample statements
+
+/// Stands for a text that is read.
+const READ: usize = 255;
+/// Stands for want of memory, which ample memory never meets.
+const NO_MEMORY: usize = 256;
+
+/// What is done to one token of a sample.
+#[derive(Clone, Copy)]
+enum Edit {
+    Dropped,
+    Doubled,
+    Worded,
+    Spoiled,
+}
+
+/// The place at which a text is refused.
+fn place(alloc: Global, text: &[u8]) -> usize {
+    match read(alloc, text) {
+        Ok(_) => READ,
+        Err(SyntaxFault::At { place }) => place,
+        Err(SyntaxFault::Memory) => NO_MEMORY,
+    }
+}
+
+/// Compares the places of all beginnings of a text with a table.
+fn check_cuts(rt: &(impl Abort + AllocGlobal), text: &[u8], places: &[u8]) {
+    assert_eq!(rt; places.len(), text.len() + 1);
+    for n in 0..=text.len() {
+        let (front, _) = text.split_at(n);
+        assert_eq!(rt;
+            place(rt.alloc(), front),
+            usize::from(places[n]),
+            "cut at {n}"
+        );
+    }
+}
+
+/// A token edited.
+fn put_edited(edit: Edit, token: &[u8], made: &mut Vec<u8>) -> Result<(), Fail> {
+    match edit {
+        Edit::Dropped => made.extend_from_slice(b" ")?,
+        Edit::Doubled => {
+            made.extend_from_slice(token)?;
+            made.extend_from_slice(b" ")?;
+            made.extend_from_slice(token)?;
+        }
+        Edit::Worded => made.extend_from_slice(b" or ")?,
+        Edit::Spoiled => made.extend_from_slice(b"?")?,
+    }
+    Ok(())
+}
+
+/// A text with the bytes from `start` to `stop` edited.
+fn edited(
+    alloc: Global,
+    text: &[u8],
+    start: usize,
+    stop: usize,
+    edit: Edit,
+) -> Result<Vec<u8>, Fail> {
+    let mut made = Vec::new(alloc);
+    made.extend_from_slice(text.get(..start).unwrap_or(b""))?;
+    put_edited(edit, text.get(start..stop).unwrap_or(b""), &mut made)?;
+    made.extend_from_slice(text.get(stop..).unwrap_or(b""))?;
+    Ok(made)
+}
+
+/// Compares the places of a text in which each token in turn is edited with a table.
+fn check_edits(
+    rt: &(impl Abort + AllocGlobal),
+    text: &[u8],
+    starts: &[u8],
+    stops: &[u8],
+    edit: Edit,
+    places: &[u8],
+) -> Result<(), Fail> {
+    assert_eq!(rt; places.len(), starts.len());
+    assert_eq!(rt; stops.len(), starts.len());
+    for k in 0..starts.len() {
+        let (start, stop) = (usize::from(starts[k]), usize::from(stops[k]));
+        let made = edited(rt.alloc(), text, start, stop, edit)?;
+        assert_eq!(rt;
+            place(rt.alloc(), made.as_slice()),
+            usize::from(places[k]),
+            "token {k}"
+        );
+    }
+    Ok(())
+}
+
+/// Compares the places of a sample's beginnings and of what is near it.
+fn check_sample(rt: &(impl Abort + AllocGlobal), sample: &Sample) -> Result<(), Fail> {
+    let (text, starts, stops) = (sample.text, sample.starts, sample.stops);
+    check_cuts(rt, text, sample.cut);
+    check_edits(rt, text, starts, stops, Edit::Dropped, sample.dropped)?;
+    check_edits(rt, text, starts, stops, Edit::Doubled, sample.doubled)?;
+    check_edits(rt, text, starts, stops, Edit::Worded, sample.worded)?;
+    check_edits(rt, text, starts, stops, Edit::Spoiled, sample.spoiled)
+}
+
+#[test]
+fn places_near_new_accounts(rt: HostRuntime) -> Result<(), Fail> {
+    check_sample(&rt, &places::SAMPLE_1)
+}
+
+#[test]
+fn places_near_other_new_accounts(rt: HostRuntime) -> Result<(), Fail> {
+    check_sample(&rt, &places::SAMPLE_12)
+}
+
+#[test]
+fn places_near_changes(rt: HostRuntime) -> Result<(), Fail> {
+    check_sample(&rt, &places::SAMPLE_2)?;
+    check_sample(&rt, &places::SAMPLE_3)?;
+    check_sample(&rt, &places::SAMPLE_4)
+}
+
+#[test]
+fn places_near_factors(rt: HostRuntime) -> Result<(), Fail> {
+    check_sample(&rt, &places::SAMPLE_5)?;
+    check_sample(&rt, &places::SAMPLE_6)?;
+    check_sample(&rt, &places::SAMPLE_7)
+}
+
+#[test]
+fn places_near_other_statements(rt: HostRuntime) -> Result<(), Fail> {
+    check_sample(&rt, &places::SAMPLE_8)?;
+    check_sample(&rt, &places::SAMPLE_9)?;
+    check_sample(&rt, &places::SAMPLE_10)?;
+    check_sample(&rt, &places::SAMPLE_11)
+}
+
+#[test]
+fn places_near_further_changes(rt: HostRuntime) -> Result<(), Fail> {
+    check_sample(&rt, &places::SAMPLE_13)?;
+    check_sample(&rt, &places::SAMPLE_14)
+}
+
+// ## Odd spacing, case and quotes
+
+/// Each of three spellings is read to what is printed so, and so is what is printed.
+fn check_spelled(rt: &(impl Abort + AllocGlobal), spelled: &Spelled) -> Result<(), Fail> {
+    let printed = spelled.printed;
+    shows(rt, rt.alloc(), printed, printed)?;
+    shows(rt, rt.alloc(), spelled.one, printed)?;
+    shows(rt, rt.alloc(), spelled.two, printed)?;
+    shows(rt, rt.alloc(), spelled.three, printed)
+}
+
+#[test]
+fn odd_spellings_of_new_accounts(rt: HostRuntime) -> Result<(), Fail> {
+    check_spelled(&rt, &places::SPELLED_1)?;
+    check_spelled(&rt, &places::SPELLED_2)?;
+    check_spelled(&rt, &places::SPELLED_3)
+}
+
+#[test]
+fn odd_spellings_of_changed_accounts(rt: HostRuntime) -> Result<(), Fail> {
+    check_spelled(&rt, &places::SPELLED_4)?;
+    check_spelled(&rt, &places::SPELLED_5)?;
+    check_spelled(&rt, &places::SPELLED_6)?;
+    check_spelled(&rt, &places::SPELLED_7)
+}
+
+#[test]
+fn odd_spellings_of_factors_of_accounts(rt: HostRuntime) -> Result<(), Fail> {
+    check_spelled(&rt, &places::SPELLED_8)?;
+    check_spelled(&rt, &places::SPELLED_9)?;
+    check_spelled(&rt, &places::SPELLED_10)
+}
+
+#[test]
+fn odd_spellings_of_other_statements(rt: HostRuntime) -> Result<(), Fail> {
+    check_spelled(&rt, &places::SPELLED_11)?;
+    check_spelled(&rt, &places::SPELLED_12)?;
+    check_spelled(&rt, &places::SPELLED_13)?;
+    check_spelled(&rt, &places::SPELLED_14)?;
+    check_spelled(&rt, &places::SPELLED_15)
+}
+
+#[test]
+fn each_escape(rt: HostRuntime) -> Result<(), Fail> {
+    let alloc = rt.alloc();
+    shows(&rt, alloc, b"DROP USER '\\0'", b"DROP USER '\\0'@'%'")?;
+    shows(
+        &rt,
+        alloc,
+        b"DROP USER \"\\n\\r\\t\\b\\Z\"",
+        b"DROP USER '\n\r\t\x08\x1a'@'%'",
+    )?;
+    shows(
+        &rt,
+        alloc,
+        b"DROP USER '\\%\\_'",
+        b"DROP USER '\\\\%\\\\_'@'%'",
+    )?;
+    shows(
+        &rt,
+        alloc,
+        b"DROP USER '\\'\\\"\\\\'",
+        b"DROP USER '''\"\\\\'@'%'",
+    )?;
+    shows(
+        &rt,
+        alloc,
+        b"ALTER USER a IDENTIFIED BY '\\%\\q'",
+        b"ALTER USER 'a'@'%' IDENTIFIED BY '\\\\%q'",
+    )
+}
+
+#[test]
+fn doubled_quotes_and_quotes_without_an_end(rt: HostRuntime) -> Result<(), Fail> {
+    let alloc = rt.alloc();
+    shows(&rt, alloc, b"DROP USER ''''", b"DROP USER ''''@'%'")?;
+    shows(&rt, alloc, b"DROP USER \"\"\"\"", b"DROP USER '\"'@'%'")?;
+    shows(&rt, alloc, b"DROP USER ````", b"DROP USER '`'@'%'")?;
+    shows(&rt, alloc, b"DROP USER `\\`", b"DROP USER '\\\\'@'%'")?;
+    refuses(&rt, alloc, b"DROP USER '\\", 10);
+    refuses(&rt, alloc, b"DROP USER \"a\\\"", 10);
+    refuses(&rt, alloc, b"DROP USER '''", 10);
+    refuses(&rt, alloc, b"ALTER USER a IDENTIFIED BY 'p\\'", 27);
+    Ok(())
+}
+
+#[test]
+fn numbers_at_their_bound(rt: HostRuntime) -> Result<(), Fail> {
+    let alloc = rt.alloc();
+    shows(
+        &rt,
+        alloc,
+        b"ALTER USER a PASSWORD HISTORY 4294967294 PASSWORD REUSE INTERVAL 4294967295 DAY FAILED_LOGIN_ATTEMPTS 4294967296",
+        b"ALTER USER 'a'@'%' PASSWORD HISTORY 4294967294 PASSWORD REUSE INTERVAL 4294967295 DAY FAILED_LOGIN_ATTEMPTS 4294967295",
+    )?;
+    shows(
+        &rt,
+        alloc,
+        b"ALTER USER a PASSWORD EXPIRE INTERVAL 18446744073709551616 DAY PASSWORD_LOCK_TIME 00000000000000000000004294967297",
+        b"ALTER USER 'a'@'%' PASSWORD EXPIRE INTERVAL 4294967295 DAY PASSWORD_LOCK_TIME 4294967295",
+    )
+}
+
+// ## Long statements
+
+/// A text of `front`, `count` times `part`, and `back`.
+fn repeated(
+    alloc: Global,
+    front: &[u8],
+    part: &[u8],
+    count: usize,
+    back: &[u8],
+) -> Result<Vec<u8>, Fail> {
+    let mut made = Vec::new(alloc);
+    made.extend_from_slice(front)?;
+    for _ in 0..count {
+        made.extend_from_slice(part)?;
+    }
+    made.extend_from_slice(back)?;
+    Ok(made)
+}
+
+#[test]
+fn a_name_of_a_mebibyte(rt: HostRuntime) -> Result<(), Fail> {
+    let alloc = rt.alloc();
+    let name = repeated(alloc, b"DROP USER '", b"ab", 524_288, b"'")?;
+    let printed = repeated(alloc, b"DROP USER '", b"ab", 524_288, b"'@'%'")?;
+    shows(&rt, alloc, name.as_slice(), printed.as_slice())
+}
+
+#[test]
+fn a_mebibyte_of_options(rt: HostRuntime) -> Result<(), Fail> {
+    let alloc = rt.alloc();
+    let options = repeated(alloc, b"ALTER USER a", b" ACCOUNT LOCK", 80_660, b"")?;
+    shows(
+        &rt,
+        alloc,
+        options.as_slice(),
+        b"ALTER USER 'a'@'%' ACCOUNT LOCK",
+    )?;
+    let fault = repeated(alloc, b"ALTER USER a", b" ACCOUNT LOCK", 80_660, b" x")?;
+    refuses(&rt, alloc, fault.as_slice(), 1_048_593);
+    Ok(())
 }

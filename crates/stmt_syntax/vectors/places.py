@@ -1,0 +1,275 @@
+#!/usr/bin/env python3
+"""Prints src/tests/places.rt: sample statements, and where a reader must stop in them and in what is near them.
+
+The places come from a brute search that shares nothing with the crate: tokens are cut out by a regular
+expression, whole statements are recognised by another one over the tokens, and a token is the first at which no
+statement fits where none of many completions of the tokens up to it is recognised. The completions are the ends
+of the samples, alone or behind one more token of them. The odd spellings are drawn by a fixed seed.
+"""
+import functools
+import random
+import re
+
+READS = 255
+TOKEN = re.compile(
+    rb"(?P<word>[A-Za-z0-9_$]+)|(?P<sign>[@*.,;()])"
+    rb"|(?P<text>'(?:''|\\.|[^'\\])*'(?!')|\"(?:\"\"|\\.|[^\"\\])*\"(?!\"))"
+    rb"|(?P<quoted>`(?:``|[^`])*`(?!`))", re.DOTALL)
+BLANKS = re.compile(rb"[ \t\r\n]*")
+
+
+def content(literal):
+    """What stands in quotes; the samples have no escape but a backslash and a quote."""
+    quote = literal[:1]
+    inner = literal[1:-1].replace(quote + quote, quote)
+    return inner if quote == b'`' else re.sub(rb"\\(.)", rb"\1", inner, flags=re.DOTALL)
+
+
+def tokens(text):
+    """The tokens with their first and last places; a bad one ends them."""
+    found, at = [], BLANKS.match(text).end()
+    while at < len(text):
+        m = TOKEN.match(text, at)
+        if m is None:
+            return found + [('b', at, len(text))]
+        kind = m.lastgroup
+        spelled = m.group().decode('latin1')
+        if kind == 'word':
+            code = 'w' + spelled.lower()
+        elif kind == 'sign':
+            code = 's' + spelled
+        else:
+            code = kind[0] + content(m.group()).lower().hex()
+        found.append((code, at, m.end()))
+        at = BLANKS.match(text, m.end()).end()
+    return found
+
+
+def words(text):
+    return ' '.join('w' + word for word in text.lower().split())
+
+
+PART = r'(?:w\S+|t\S*|q\S*)'
+TEXT = r't\S*'
+NUMBER = r'w[0-9]+'
+LOCALHOST = b'localhost'.hex()
+NAME = rf'{PART}(?: s@ (?:wlocalhost|[tq]{LOCALHOST}|[tq]25))?'
+RETAIN = rf'(?: {words("RETAIN CURRENT PASSWORD")})?'
+FACTOR = rf'{words("IDENTIFIED WITH")} {PART} was {TEXT}'
+AUTH = rf'widentified (?:wby {TEXT}|wwith {PART}(?: wby {TEXT})?)'
+OPTION = '(?: (?:' + '|'.join([
+    rf'wpassword wexpire(?: wdefault| wnever| winterval {NUMBER} wday)?',
+    rf'wpassword whistory (?:wdefault|{NUMBER})',
+    rf'wpassword wreuse winterval (?:wdefault|{NUMBER} wday)',
+    rf'wfailed_login_attempts {NUMBER}',
+    rf'wpassword_lock_time (?:wunbounded|{NUMBER})',
+    r'waccount w(?:un)?lock']) + '))'
+NUMBERED = r'w[23] wfactor'
+CHANGE = '(?: (?:' + '|'.join([
+    rf'widentified wby {TEXT}{RETAIN}',
+    rf'widentified wwith {PART}(?: wby {TEXT}{RETAIN})?',
+    words('DISCARD OLD PASSWORD'),
+    rf'w(?:add|modify) {NUMBERED} {FACTOR}',
+    rf'wdrop {NUMBERED}']) + '))'
+OWN = rf'(?:widentified wby {TEXT}{RETAIN}|{words("DISCARD OLD PASSWORD")})'
+PRIVILEGE = rf'(?:{words("CREATE USER")}|wapplication_password_admin)'
+PRIVILEGES = rf'{PRIVILEGE}(?: s, {PRIVILEGE})* won s\* s\. s\*'
+STATEMENT = re.compile('(?:' + '|'.join([
+    rf'wcreate wuser {NAME}(?: {AUTH}(?: wand {FACTOR}){{0,2}})?{OPTION}*',
+    rf'walter wuser {NAME}(?:{CHANGE}{OPTION}*|{OPTION}+)',
+    rf'walter wuser wuser s\( s\) {OWN}',
+    rf'wdrop wuser {NAME}',
+    words('FLUSH PRIVILEGES'),
+    rf'wgrant {PRIVILEGES} wto {NAME}',
+    rf'wrevoke {PRIVILEGES} wfrom {NAME}']) + ')(?: s;)?')
+
+SAMPLES = [
+    b"create user 'a'@'localhost' identified with 'm' by 'p' and identified with x as 'y' AND IDENTIFIED WITH z AS ''"
+    b" password expire interval 3 day account lock",
+    b'ALTER USER a@`%` IDENTIFIED BY "p" RETAIN CURRENT PASSWORD PASSWORD HISTORY 5;',
+    b"ALTER USER USER() IDENTIFIED BY 'p' RETAIN CURRENT PASSWORD",
+    b"alter user user@localhost discard old password failed_login_attempts 3 password_lock_time unbounded",
+    b"ALTER USER a ADD 2 FACTOR IDENTIFIED WITH m AS 'l' PASSWORD REUSE INTERVAL 7 DAY",
+    b"ALTER USER a MODIFY 3 FACTOR IDENTIFIED WITH `m` AS \"l\"\t",
+    b"ALTER USER a DROP 2 FACTOR",
+    b"DROP USER 'a''b\\'c'@\"%\" ;",
+    b"FLUSH PRIVILEGES;",
+    b"GRANT CREATE USER, APPLICATION_PASSWORD_ADMIN ON *.* TO a@localhost",
+    b"REVOKE APPLICATION_PASSWORD_ADMIN,CREATE USER ON*.*FROM\"a\"",
+    b"CREATE USER create PASSWORD EXPIRE NEVER PASSWORD HISTORY DEFAULT PASSWORD REUSE INTERVAL DEFAULT"
+    b" PASSWORD_LOCK_TIME 5 ACCOUNT UNLOCK",
+    b"ALTER USER USER ( ) DISCARD OLD PASSWORD",
+    b"ALTER USER `a` IDENTIFIED WITH m BY 'q' PASSWORD EXPIRE PASSWORD EXPIRE DEFAULT",
+]
+CODES = [[code for code, _, _ in tokens(sample)] for sample in SAMPLES]
+ENDS = sorted({tuple(codes[k:]) for codes in CODES for k in range(len(codes) + 1)}, key=len)
+ONE_MORE = sorted({code for codes in CODES for code in codes})
+
+
+def is_statement(codes):
+    return STATEMENT.fullmatch(' '.join(codes)) is not None
+
+
+@functools.lru_cache(maxsize=None)
+def goes_on(front):
+    if any(is_statement(front + end) for end in ENDS):
+        return True
+    return any(is_statement(front + (code,) + end) for code in ONE_MORE for end in ENDS)
+
+
+def place(text):
+    found = tokens(text)
+    codes = tuple(code for code, _, _ in found)
+    if is_statement(codes):
+        return READS
+    for n, (_, start, _) in enumerate(found):
+        if not goes_on(codes[:n + 1]):
+            return start
+    return len(text)
+
+
+def literal(data):
+    plain = {10: '\\n', 13: '\\r', 9: '\\t', 0: '\\0', 34: '\\"', 92: '\\\\'}
+    return 'b"' + ''.join(plain.get(b, chr(b) if 32 <= b < 127 else '\\x%02x' % b) for b in data) + '"'
+
+
+# What is printed, and its words: a name or a string is a pair.
+NAMES = [b'a', b'', b"it's", b'USER', b'back\\slash', b'two "x"', b'b`q', b'\0nul', b'tab\tand\nline', b'100%']
+PRINTED = [
+    ['CREATE', 'USER', ('name', 0), '@', ('host', b'%')],
+    ['CREATE', 'USER', ('name', 1), '@', ('host', b'localhost'), 'IDENTIFIED', 'BY', ('text', 2), 'PASSWORD', 'EXPIRE'],
+    ['CREATE', 'USER', ('name', 2), '@', ('host', b'%'), 'IDENTIFIED', 'WITH', ('name', 4), 'BY', ('text', 5), 'AND', 'IDENTIFIED',
+     'WITH', ('name', 6), 'AS', ('text', 7), 'AND', 'IDENTIFIED', 'WITH', ('name', 8), 'AS', ('text', 1), 'PASSWORD', 'EXPIRE',
+     'INTERVAL', '90', 'DAY', 'PASSWORD', 'HISTORY', '5', 'PASSWORD', 'REUSE', 'INTERVAL', '365', 'DAY', 'FAILED_LOGIN_ATTEMPTS',
+     '4', 'PASSWORD_LOCK_TIME', 'UNBOUNDED', 'ACCOUNT', 'UNLOCK'],
+    ['ALTER', 'USER', 'USER', '(', ')', 'IDENTIFIED', 'BY', ('text', 9), 'RETAIN', 'CURRENT', 'PASSWORD'],
+    ['ALTER', 'USER', 'USER', '(', ')', 'DISCARD', 'OLD', 'PASSWORD'],
+    ['ALTER', 'USER', ('name', 3), '@', ('host', b'localhost'), 'IDENTIFIED', 'WITH', ('name', 9), 'PASSWORD', 'EXPIRE', 'NEVER'],
+    ['ALTER', 'USER', ('name', 5), '@', ('host', b'%'), 'DISCARD', 'OLD', 'PASSWORD', 'PASSWORD', 'HISTORY', 'DEFAULT'],
+    ['ALTER', 'USER', ('name', 7), '@', ('host', b'%'), 'ADD', '2', 'FACTOR', 'IDENTIFIED', 'WITH', ('name', 0), 'AS', ('text', 4)],
+    ['ALTER', 'USER', ('name', 8), '@', ('host', b'%'), 'MODIFY', '3', 'FACTOR', 'IDENTIFIED', 'WITH', ('name', 1), 'AS', ('text', 6),
+     'PASSWORD', 'REUSE', 'INTERVAL', 'DEFAULT', 'PASSWORD_LOCK_TIME', '0'],
+    ['ALTER', 'USER', ('name', 9), '@', ('host', b'localhost'), 'DROP', '3', 'FACTOR', 'ACCOUNT', 'LOCK'],
+    ['DROP', 'USER', ('name', 6), '@', ('host', b'%')],
+    ['FLUSH', 'PRIVILEGES'],
+    ['GRANT', 'CREATE', 'USER', ',', 'APPLICATION_PASSWORD_ADMIN', 'ON', '*', '.', '*', 'TO', ('name', 4), '@', ('host', b'localhost')],
+    ['GRANT', 'APPLICATION_PASSWORD_ADMIN', 'ON', '*', '.', '*', 'TO', ('name', 0), '@', ('host', b'%')],
+    ['REVOKE', 'CREATE', 'USER', 'ON', '*', '.', '*', 'FROM', ('name', 2), '@', ('host', b'%')],
+]
+
+
+def bytes_of(word):
+    return NAMES[word[1]] if isinstance(word[1], int) else word[1]
+
+
+def printed_word(word):
+    if isinstance(word, str):
+        return word.encode()
+    marks = {39: b"''", 92: b'\\\\', 0: b'\\0'}
+    return b"'" + b''.join(marks.get(b, bytes([b])) for b in bytes_of(word)) + b"'"
+
+
+def printed(words_):
+    text = b''
+    for i, word in enumerate(words_):
+        before = words_[i - 1] if i else None
+        glued = i == 0 or word in ('@', '.', ',', '(', ')') or before in ('@', '.')
+        text += (b'' if glued or (word == '*' and before == '.') else b' ') + printed_word(word)
+    return text
+
+
+def odd_word(draw, word):
+    if isinstance(word, str):
+        if word.isdigit() and word not in ('2', '3'):
+            return (b'0' * draw.randrange(3)) + word.encode()
+        return ''.join(draw.choice((c.lower(), c.upper())) for c in word).encode()
+    kind, data = word[0], bytes_of(word)
+    if kind == 'host' and data == b'localhost' and draw.randrange(2):
+        return b'LocalHost'
+    if kind == 'name' and re.fullmatch(rb'[A-Za-z0-9_$]+', data) and data != b'USER' and draw.randrange(2):
+        return data
+    quote = draw.choice((b"'", b'"') if kind == 'text' else (b"'", b'"', b'`'))
+    if quote == b'`':
+        return quote + data.replace(quote, quote + quote) + quote
+    escapes = {0: b'\\0', 10: b'\\n', 9: b'\\t', 13: b'\\r'}
+    spelled = b''
+    for b in data:
+        byte = bytes([b])
+        if byte == quote:
+            spelled += draw.choice((quote + quote, b'\\' + quote))
+        elif byte == b'\\':
+            spelled += b'\\\\'
+        elif b in escapes and draw.randrange(2):
+            spelled += escapes[b]
+        elif byte in (b'x', b'a', b'`') and draw.randrange(2):
+            spelled += b'\\' + byte
+        else:
+            spelled += byte
+    return quote + spelled + quote
+
+
+def odd(draw, words_):
+    text, before = b'', b' '
+    for word in words_:
+        spelled = odd_word(draw, word)
+        word_like = re.compile(rb'[A-Za-z0-9_$]')
+        touching = bool(word_like.match(before[-1:]) and word_like.match(spelled[:1]))
+        touching = touching or (before[-1:] == spelled[:1] and spelled[:1] in (b"'", b'"', b'`'))
+        blanks = b''.join(draw.choice((b' ', b'\t', b'\n', b'\r')) for _ in range(draw.randrange(3)))
+        text += (blanks or (b' ' if touching else b'')) + spelled
+        before = spelled
+    return text + draw.choice((b'', b';', b' ; ', b'\n'))
+
+
+def main():
+    print('//! Sample statements, and where a reader must stop in their beginnings and where one token is edited; 255 stands')
+    print('//! where the bytes are a statement. Then statements as they are printed, and spelled in odd spacing, case and')
+    print('//! quotes. All of it comes from vectors/places.py, and `rt fmt` laid it out.\n')
+    print('/// A statement and places, each a byte.')
+    print('pub struct Sample {')
+    print('    pub text: &\'static [u8],')
+    print('    /// The place of each beginning, by its length.')
+    print('    pub cut: &\'static [u8],')
+    print('    /// Where each token starts and stops.')
+    print('    pub starts: &\'static [u8],')
+    print('    pub stops: &\'static [u8],')
+    print('    /// The place where the token is dropped, doubled, made `or` and made a byte that begins none.')
+    for name in ('dropped', 'doubled', 'worded', 'spoiled'):
+        print('    pub %s: &\'static [u8],' % name)
+    print('}\n')
+    for i, sample in enumerate(SAMPLES, 1):
+        found = tokens(sample)
+        cut = lambda k, new: sample[:found[k][1]] + new + sample[found[k][2]:]
+        spelled = lambda k: sample[found[k][1]:found[k][2]]
+        each = range(len(found))
+        print('pub const SAMPLE_%d: Sample = Sample {' % i)
+        print('    text: %s,' % literal(sample))
+        for name, places in [
+                ('cut', [place(sample[:n]) for n in range(len(sample) + 1)]),
+                ('starts', [found[k][1] for k in each]),
+                ('stops', [found[k][2] for k in each]),
+                ('dropped', [place(cut(k, b' ')) for k in each]),
+                ('doubled', [place(cut(k, spelled(k) + b' ' + spelled(k))) for k in each]),
+                ('worded', [place(cut(k, b' or ')) for k in each]),
+                ('spoiled', [place(cut(k, b'?')) for k in each])]:
+            print('    %s: b"%s",' % (name, ''.join('\\x%02x' % v for v in places)))
+        print('};\n')
+    draw = random.Random(20261201)
+    print('/// A statement as it is printed, and three other spellings of it.')
+    print('pub struct Spelled {')
+    print('    pub printed: &\'static [u8],')
+    for name in ('one', 'two', 'three'):
+        print('    pub %s: &\'static [u8],' % name)
+    print('}\n')
+    for i, words_ in enumerate(PRINTED, 1):
+        print('pub const SPELLED_%d: Spelled = Spelled {' % i)
+        print('    printed: %s,' % literal(printed(words_)))
+        for name in ('one', 'two', 'three'):
+            text = odd(draw, words_)
+            if place(text) != READS:
+                raise SystemExit('an odd spelling is no statement: %r' % text)
+            print('    %s: %s,' % (name, literal(text)))
+        print('};\n')
+
+
+main()
