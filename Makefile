@@ -14,3 +14,5 @@ bench:
 	@bench/crypt
 	@cd crates/loginctl && rt run -- frames < /dev/null
 	@bench/frames
+	@cd crates/stmt_probe && rt run < stdin > /dev/null
+	@bench/statements
