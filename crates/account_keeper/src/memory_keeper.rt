@@ -1,10 +1,8 @@
 //! A keeper in memory, which tells its rows to contracts and fails at listed calls.
 
-ghost use Rattle.account_keeper.specs.Shelf.{IsPlace};
+ghost use Rattle.account_keeper.specs.Shelf.{GoesAsPlanned, IsPlace};
 ghost use Rattle.lg_outside.specs.Keeping.{Ascend, Changes, IsCaused, IsLoaded, put_row, remove_row, rows_below};
-ghost use Rattle.lg_outside.specs.Plan.{after_call, fails_next};
 ghost use Rattle.lg_outside.specs.Faults.{counted};
-ghost use Rattle.lg_outside.specs.declared.keepers.KeepFault.TheVariants as fault;
 ghost use Rattle.std.specs.Prelude.{◌≡◌, ◌↔◌, ◌≤◌, Some, Err, [], ◌∷◌, ◌++◌, IfOk, OnOk, OnErr, IsTrue, length};
 
 use lg_base::{Bytes, Items, Memory};
@@ -79,6 +77,19 @@ impl MemoryKeeper {
     {
         self.plan.fail_next()
     }
+
+    /// Counts one more of the calls that can fail, which does where the plan says so.
+    fn count_call(&mut self) -> Result<(), KeepFault>
+        ensures rows { self.new.rows ≡ self.old.rows }
+        ensures planned { GoesAsPlanned self.old.plan self.new.plan result }
+        ensures cause { IsCaused self.old.plan.faults self.new.plan.faults result }
+        ensures rising { self.old.plan.faults ≤ self.new.plan.faults }
+    {
+        if self.plan.next_fails(false) {
+            return Err(KeepFault::Failed);
+        }
+        Ok(())
+    }
 }
 
 /// Where a key has its row, or else where it belongs.
@@ -130,14 +141,9 @@ impl Keeper for MemoryKeeper {
         ensures rows { Some self.new.rows ≡ Some self.old.rows }
         ensures cause { IsCaused self.old.plan.faults self.new.plan.faults result }
         ensures rising { self.old.plan.faults ≤ self.new.plan.faults }
-
-        ensures fails { (result ≡ Err fault.Failed) ↔ IsTrue (fails_next self.old.plan) }
-        ensures plan { self.new.plan ≡ after_call self.old.plan (fails_next self.old.plan) }
+        ensures planned { GoesAsPlanned self.old.plan self.new.plan result }
     {
-        if self.plan.next_fails(false) {
-            return Err(KeepFault::Failed);
-        }
-        Ok(())
+        self.count_call()
     }
 
     fn load(&mut self) -> Result<Items<Row>, KeepFault>
@@ -146,13 +152,9 @@ impl Keeper for MemoryKeeper {
         ensures rows { Some self.new.rows ≡ Some self.old.rows }
         ensures cause { IsCaused self.old.plan.faults self.new.plan.faults result }
         ensures rising { self.old.plan.faults ≤ self.new.plan.faults }
-
-        ensures fails { (result ≡ Err fault.Failed) ↔ IsTrue (fails_next self.old.plan) }
-        ensures plan { self.new.plan ≡ after_call self.old.plan (fails_next self.old.plan) }
+        ensures planned { GoesAsPlanned self.old.plan self.new.plan result }
     {
-        if self.plan.next_fails(false) {
-            return Err(KeepFault::Failed);
-        }
+        self.count_call()?;
         Ok(copied(*self.rows.allocator(), &self.rows)?)
     }
 
@@ -160,13 +162,9 @@ impl Keeper for MemoryKeeper {
         ensures rows { Changes (put_row key bytes.now) (Some self.old.rows) (Some self.new.rows) result }
         ensures cause { IsCaused self.old.plan.faults self.new.plan.faults result }
         ensures rising { self.old.plan.faults ≤ self.new.plan.faults }
-
-        ensures fails { (result ≡ Err fault.Failed) ↔ IsTrue (fails_next self.old.plan) }
-        ensures plan { self.new.plan ≡ after_call self.old.plan (fails_next self.old.plan) }
+        ensures planned { GoesAsPlanned self.old.plan self.new.plan result }
     {
-        if self.plan.next_fails(false) {
-            return Err(KeepFault::Failed);
-        }
+        self.count_call()?;
         let bytes = Bytes::copy(*self.rows.allocator(), bytes)?;
         Ok(put_row(&mut self.rows, Row { key, bytes })?)
     }
@@ -175,13 +173,9 @@ impl Keeper for MemoryKeeper {
         ensures rows { Changes (remove_row key) (Some self.old.rows) (Some self.new.rows) result }
         ensures cause { IsCaused self.old.plan.faults self.new.plan.faults result }
         ensures rising { self.old.plan.faults ≤ self.new.plan.faults }
-
-        ensures fails { (result ≡ Err fault.Failed) ↔ IsTrue (fails_next self.old.plan) }
-        ensures plan { self.new.plan ≡ after_call self.old.plan (fails_next self.old.plan) }
+        ensures planned { GoesAsPlanned self.old.plan self.new.plan result }
     {
-        if self.plan.next_fails(false) {
-            return Err(KeepFault::Failed);
-        }
+        self.count_call()?;
         remove_row(&mut self.rows, key);
         Ok(())
     }
