@@ -1,20 +1,32 @@
 -- What readers find.
-use Rattle.std.proofs.Common.{◌≡◌, ℕ, ◌+◌, ◌^◌, ◌%◌, ◌/◌, Bool, true, false, length-append, take_at, drop_at, ◌<◌, List, [], ◌∷◌, ◌++◌, length, drop, Ok, Err, refl, sym, ap, ◌∙◌, subst, add-zero, arith}
+use Rattle.std.proofs.Common.{◌≡◌, ◌≢◌, ℕ, ◌+◌, ◌*◌, ◌≤◌, get_or, ◌^◌, ◌%◌, ◌/◌, Bool, true, false, length-append, take_at, drop_at, ◌<◌, List, [], ◌∷◌, ◌++◌, length, drop, Option, Some, None, Result, Ok, Err, IfOk, OnErr, refl, sym, ap, ⊎_elim, ◌∙◌, subst, add-zero, arith}
 use Rattle.lg_base.specs.Fields.{little, little_text}
 use Rattle.lg_base.specs.Reading.{Cursor, Read, number_at, bytes_at}
 use Rattle.lg_base.specs.declared.input.ReadFault.{ReadFault}
 use Rattle.lg_base.specs.declared.names.Host.{Host}
 use Rattle.lg_base.specs.declared.names.Host.TheVariants.{Localhost, Any}
+use Rattle.std.proofs.lemmas.Bool.{cases_lt}
+use Rattle.std.proofs.lemmas.List.{get_or_past}
+use Rattle.std.specs.List.{All}
+use Rattle.hex.specs.Hex.{IsBytes, upper_digits}
+use Rattle.hex.proofs.HexLemmas.{length-encode_with}
 use Rattle.wire_form.proofs.Numbers.{number_at-long, bytes_at-long, length-little_text, little-little_text}
+use Rattle.native_scramble.specs.Native.{native_text}
+use Rattle.caching_sha2.specs.Stored.{IsStoredText, text_of}
+use Rattle.caching_sha2.specs.declared.stored.Sha2Stored.{Sha2Stored}
 use Rattle.factor_chain.specs.declared.credentials.Method.{Method}
 use Rattle.factor_chain.specs.declared.credentials.Method.TheVariants as method
+use Rattle.factor_chain.specs.declared.credentials.Stored.{Stored}
+use Rattle.factor_chain.specs.declared.credentials.Stored.TheVariants as stored
 use Rattle.account_rules.specs.declared.accounts.Lifetime.{Lifetime}
 use Rattle.account_rules.specs.declared.accounts.Lifetime.TheVariants as lifetime
 use Rattle.account_rules.specs.declared.accounts.Limit.{Limit}
 use Rattle.account_rules.specs.declared.accounts.Limit.TheVariants as limit
 use Rattle.login_lock.specs.declared.LockTime.{LockTime}
 use Rattle.login_lock.specs.declared.LockTime.TheVariants as lock
-use Rattle.account_keeper.specs.Record.{lifetime_text, limit_text, lock_time_text, host_byte, method_byte, flag_byte, privileges_byte}
+use Rattle.account_keeper.specs.Finding.{Finds}
+use Rattle.account_keeper.specs.declared.reading.RecordFault.{RecordFault}
+use Rattle.account_keeper.specs.Record.{IsDigest, IsSaltedSum, StoredFits, lifetime_text, limit_text, lock_time_text, host_byte, method_byte, flag_byte, privileges_byte, secondary_text, stored_text}
 
 abbrev as_read : ℕ → Cursor → Read ℕ
 as_read x next = Ok (x, next)
@@ -175,3 +187,105 @@ privileges_found (false, true) b e =
     (omega (arith, e), λ is. absurd (omega (arith, e, is)), λ is. absurd (omega (arith, e, is)), λ _. refl, λ is. absurd (omega (arith, e, is)))
 privileges_found (true, true) b e =
     (omega (arith, e), λ is. absurd (omega (arith, e, is)), λ is. absurd (omega (arith, e, is)), λ is. absurd (omega (arith, e, is)), λ _. refl)
+
+-- a number in eight bytes, of the bytes that are read
+pub eight_found : (result : Result ℕ RecordFault) (before after text : List ℕ) → IfOk result (λ n. n ≡ little text) → OnErr result (length text ≢ 8) →
+    ((v more : List ℕ) → length v ≡ 8 → before ≡ v ++ more → (text ≡ v) × (after ≡ more)) →
+    Finds (λ x v. x ≡ v) (λ n. little_text 8 n) (λ n. n < 256 ^ 8) before after result
+eight_found (Ok n) before after text is other reads = λ v more fits at.
+    let r = reads (little_text 8 v) more (length-little_text 8 v) at in
+    (is ∙ ap little r.0 ∙ little-little_text 8 v fits, r.1)
+eight_found (Err e) before after text is other reads = λ v more fits at.
+    let r = reads (little_text 8 v) more (length-little_text 8 v) at in
+    absurd (other (ap length r.0 ∙ length-little_text 8 v))
+
+-- the stored texts of the methods
+pub native_long : (digest : List ℕ) → length digest ≡ 20 → length (native_text digest) ≡ 41
+native_long digest h = omega (arith, length-encode_with upper_digits digest, h)
+
+pub native_bytes : (digest : List ℕ) → All (λ x. x < 256) digest → IsBytes digest
+native_bytes digest h i = ⊎_elim (λ lt. h i 0 lt) (λ past. let e = get_or_past digest i 0 past in omega (arith, e)) (cases_lt i (length digest))
+
+pub sha2_long : (value : Sha2Stored) → length value.salt ≡ 20 → length value.sum ≡ 43 → length (text_of value) ≡ 70
+sha2_long value h k = omega (arith, length-append value.salt value.sum, h, k)
+
+pub sha2_stored : (value : Sha2Stored) (text : List ℕ) → IsSaltedSum value → text ≡ text_of value → IsStoredText value text
+sha2_stored value text h e = record { storable = h.0; salt_length = h.1; sum_length = h.2; bytes = e }
+
+abbrev pub stored_tag : Stored → ℕ
+stored_tag stored.Empty = 0
+stored_tag (stored.Native digest) = 1
+stored_tag (stored.Sha2 value) = 2
+
+abbrev pub stored_tail : Stored → List ℕ
+stored_tail stored.Empty = []
+stored_tail (stored.Native digest) = native_text digest
+stored_tail (stored.Sha2 value) = text_of value
+
+pub stored_parts : (v : Stored) (more : List ℕ) → stored_text v ++ more ≡ stored_tag v ∷ (stored_tail v ++ more)
+stored_parts stored.Empty more = refl
+stored_parts (stored.Native digest) more = refl
+stored_parts (stored.Sha2 value) more = refl
+
+pub stored_found : (v : Stored) (b : ℕ) → b ≡ stored_tag v → (b ≡ 0 → v ≡ stored.Empty) × (b < 3)
+stored_found stored.Empty b e = (λ _. refl, omega (arith, e))
+stored_found (stored.Native digest) b e = (λ is. absurd (omega (arith, e, is)), omega (arith, e))
+stored_found (stored.Sha2 value) b e = (λ is. absurd (omega (arith, e, is)), omega (arith, e))
+
+abbrev pub secondary_tag : Option (Stored × ℕ) → ℕ
+secondary_tag None = 0
+secondary_tag (Some second) = 1
+
+abbrev pub secondary_tail : Option (Stored × ℕ) → List ℕ
+secondary_tail None = []
+secondary_tail (Some second) = stored_text second.0
+
+pub secondary_parts : (v : Option (Stored × ℕ)) (more : List ℕ) → secondary_text v ++ more ≡ secondary_tag v ∷ (secondary_tail v ++ more)
+secondary_parts None more = refl
+secondary_parts (Some second) more = refl
+
+pub secondary_found : (v : Option (Stored × ℕ)) (b : ℕ) → b ≡ secondary_tag v → (b ≡ 0 → v ≡ None) × (b < 2)
+secondary_found None b e = (λ _. refl, omega (arith, e))
+secondary_found (Some second) b e = (λ is. absurd (omega (arith, e, is)), omega (arith, e))
+
+pub eight_long : (n : ℕ) → length (little_text 8 n) ≡ 8
+eight_long n = length-little_text 8 n
+
+abbrev some_of : {A : Type 0} → A → Option A
+some_of x = Some x
+
+abbrev none_of : (A : Type 0) → Option A
+none_of A = None
+
+pub same_some : {A : Type 0} (x y : A) → some_of x ≡ some_of y → x ≡ y
+same_some x y e = cc
+
+pub not_none : {A : Type 0} (x : A) → none_of A ≡ some_of x → ⊥
+not_none x e = cc
+
+-- eight bytes, of which a number is made
+pub eight_little : (text : List ℕ) (n : ℕ) → 8 ≤ length text → length text < 9 →
+    n ≡ get_or text 0 0 + get_or text 1 0 * 256 + get_or text 2 0 * 65536 + get_or text 3 0 * 16777216 + get_or text 4 0 * 4294967296
+    + get_or text 5 0 * 1099511627776 + get_or text 6 0 * 281474976710656 + get_or text 7 0 * 72057594037927936 → n ≡ little text
+eight_little [] n least most is = absurd (omega (arith, least))
+eight_little (a ∷ []) n least most is = absurd (omega (arith, least))
+eight_little (a ∷ b ∷ []) n least most is = absurd (omega (arith, least))
+eight_little (a ∷ b ∷ c ∷ []) n least most is = absurd (omega (arith, least))
+eight_little (a ∷ b ∷ c ∷ d ∷ []) n least most is = absurd (omega (arith, least))
+eight_little (a ∷ b ∷ c ∷ d ∷ e ∷ []) n least most is = absurd (omega (arith, least))
+eight_little (a ∷ b ∷ c ∷ d ∷ e ∷ f ∷ []) n least most is = absurd (omega (arith, least))
+eight_little (a ∷ b ∷ c ∷ d ∷ e ∷ f ∷ g ∷ []) n least most is = absurd (omega (arith, least))
+eight_little (a ∷ b ∷ c ∷ d ∷ e ∷ f ∷ g ∷ h ∷ []) n least most is = omega (arith, is)
+eight_little (a ∷ b ∷ c ∷ d ∷ e ∷ f ∷ g ∷ h ∷ more ∷ rest) n least most is = absurd (omega (arith, most))
+
+-- behind the byte of the native method stands its text
+pub native_there : (v : Stored) (b : ℕ) (before rest more : List ℕ) → b ≡ 1 → StoredFits v → before ≡ stored_text v ++ more →
+    ((w : ℕ) (m : List ℕ) → Unit {0} → before ≡ w ∷ m → (b ≡ w) × (rest ≡ m)) →
+    (digest : List ℕ) × (v ≡ stored.Native digest) × IsDigest digest × (rest ≡ native_text digest ++ more)
+native_there stored.Empty b before rest more one fits at reads =
+    let r = reads 0 more tt at in
+    absurd (omega (arith, one, r.0))
+native_there (stored.Native digest) b before rest more one fits at reads = (digest, refl, fits, (reads 1 (native_text digest ++ more) tt at).1)
+native_there (stored.Sha2 value) b before rest more one fits at reads =
+    let r = reads 2 (text_of value ++ more) tt at in
+    absurd (omega (arith, one, r.0))

@@ -1,2 +1,5 @@
-pub mod RowLaws
+pub mod Each
 pub mod Found
+pub mod Parts
+pub mod RowLaws
+pub mod Whole

@@ -7,6 +7,7 @@ use Rattle.lg_base.specs.declared.names.Host.{Host}
 use Rattle.lg_base.specs.declared.names.Host.TheVariants.{Localhost, Any}
 use Rattle.native_scramble.specs.Native.{native_text}
 use Rattle.caching_sha2.specs.Stored.{IsStorable, text_of}
+use Rattle.caching_sha2.specs.declared.stored.Sha2Stored.{Sha2Stored}
 use Rattle.login_lock.specs.declared.LockTime.{LockTime}
 use Rattle.login_lock.specs.declared.LockTime.TheVariants as lock
 use Rattle.factor_chain.specs.declared.credentials.Method.{Method}
@@ -73,6 +74,7 @@ past_text past = little_text 8 past.moment ++ stored_text past.stored
 unfoldable pub head_text : Account → List ℕ
 head_text a = 1 ∷ [] ++ counted_text a.name.user ++ host_byte a.name.host ∷ [] ++ method_byte a.method ∷ []
 
+-- primary, secondary
 unfoldable pub passwords_text : Account → List ℕ
 passwords_text a = stored_text a.primary ++ secondary_text a.secondary
 
@@ -80,10 +82,12 @@ passwords_text a = stored_text a.primary ++ secondary_text a.secondary
 unfoldable pub labels_text : List (List ℕ) → List ℕ
 labels_text labels = length labels ∷ [] ++ flat_map counted_text labels
 
+-- changed, expired, lifetime, history, reuse
 unfoldable pub terms_text : Account → List ℕ
 terms_text a =
     little_text 8 a.changed ++ flag_byte a.expired ∷ [] ++ lifetime_text a.lifetime ++ limit_text a.history ++ limit_text a.reuse
 
+-- attempts, lock time, locked, privileges
 unfoldable pub guard_text : Account → List ℕ
 guard_text a =
     little_text 2 a.lock.attempts ++ lock_time_text a.lock.time ++ flag_byte a.locked ∷ [] ++ privileges_byte a.create_user a.password_admin ∷ []
@@ -98,11 +102,19 @@ record_text a =
 
 -- ## The accounts that have a record
 
+-- the native method's digest: 20 bytes
+abbrev pub IsDigest : List ℕ → Type 0
+IsDigest digest = (length digest ≡ 20) × All (λ x. x < 256) digest
+
+-- the caching method's salted sum: 20 bytes of salt and 43 of sum
+abbrev pub IsSaltedSum : Sha2Stored → Type 0
+IsSaltedSum value = IsStorable value × (length value.salt ≡ 20) × (length value.sum ≡ 43)
+
 -- what is stored has a text
 abbrev pub StoredFits : Stored → Type 0
 StoredFits stored.Empty = Unit {0}
-StoredFits (stored.Native digest) = (length digest ≡ 20) × All (λ x. x < 256) digest
-StoredFits (stored.Sha2 value) = IsStorable value × (length value.salt ≡ 20) × (length value.sum ≡ 43)
+StoredFits (stored.Native digest) = IsDigest digest
+StoredFits (stored.Sha2 value) = IsSaltedSum value
 
 -- an account's password is empty or of the account's method
 abbrev pub IsOf : Method → Stored → Type 0

@@ -167,6 +167,7 @@ fn terms(rt: HostRuntime) -> Result<(), Fail> {
     check(&rt, 21, 22, &[&[1, 0, 1]], Outcome::Same)?;
     check(&rt, 21, 22, &[&[1, 1, 1]], Outcome::Bad)?;
     check(&rt, 21, 22, &[&[2]], Outcome::Bad)?;
+    check(&rt, 22, 23, &[&[1, 0, 0]], Outcome::Same)?;
     check(&rt, 22, 23, &[&[1, 0xff, 0xff]], Outcome::Same)?;
     check(&rt, 22, 23, &[&[2, 0, 0]], Outcome::Bad)
 }
@@ -182,6 +183,8 @@ fn locks_and_privileges(rt: HostRuntime) -> Result<(), Fail> {
     check(&rt, 28, 29, &[&[1]], Outcome::Same)?;
     check(&rt, 28, 29, &[&[2]], Outcome::Bad)?;
     check(&rt, 29, 30, &[&[0]], Outcome::Same)?;
+    check(&rt, 29, 30, &[&[1]], Outcome::Same)?;
+    check(&rt, 29, 30, &[&[2]], Outcome::Same)?;
     check(&rt, 29, 30, &[&[4]], Outcome::Bad)?;
     check(&rt, 29, 30, &[&[0x83]], Outcome::Bad)
 }
@@ -236,6 +239,51 @@ fn the_longest_past(rt: HostRuntime) -> Result<(), Fail> {
     Ok(())
 }
 
+/// Whether no cut of the bytes is a record.
+fn each_cut_is_bad(alloc: Global, bytes: &[u8]) -> bool {
+    for end in 0..bytes.len() {
+        if read_again(alloc, 1, &bytes[..end]) != Outcome::Bad {
+            return false;
+        }
+    }
+    true
+}
+
+#[test]
+fn each_cut_of_a_record_with_every_field(rt: HostRuntime) -> Result<(), Fail> {
+    let mut record = full(rt.alloc(), [2, 0], 2)?;
+    assert_eq!(rt; read_again(rt.alloc(), 1, record.as_slice()), Outcome::Same);
+    assert!(rt; each_cut_is_bad(rt.alloc(), record.as_slice()));
+    record.bytes(&[0])?;
+    assert_eq!(rt; read_again(rt.alloc(), 1, record.as_slice()), Outcome::Bad);
+    Ok(())
+}
+
+#[test]
+fn the_ids_of_credentials_are_not_kept(rt: HostRuntime) -> Result<(), Fail> {
+    let record = full(rt.alloc(), [2, 0], 2)?;
+    let Ok(mut account) = read_record(rt.alloc(), 5, record.as_slice()) else {
+        return Ok(assert!(rt; false));
+    };
+    account.id = 8;
+    account.primary_id = 3;
+    account.secondary = Some((account.primary, 4));
+    let mut out = Out::new(rt.alloc());
+    assert!(rt; fits_record(&account));
+    write_record(&account, &mut out)?;
+    assert_eq!(rt; out.as_slice(), record.as_slice());
+    let Ok(kept) = read_record(rt.alloc(), 6, out.as_slice()) else {
+        return Ok(assert!(rt; false));
+    };
+    assert_eq!(rt; kept.id, 6);
+    assert_eq!(rt; kept.primary, account.primary);
+    assert_eq!(rt; kept.primary_id, 0);
+    assert_eq!(rt; kept.secondary, Some((account.primary, 0)));
+    assert!(rt; kept.labels.as_slice() == account.labels.as_slice());
+    assert!(rt; kept.past.as_slice() == account.past.as_slice());
+    Ok(())
+}
+
 // ## The keeper
 
 #[test]
@@ -279,6 +327,22 @@ fn listed_calls_fail(rt: HostRuntime) -> Result<(), Fail> {
     assert_eq!(rt; keeper.fail_next().is_ok(), true);
     assert_eq!(rt; keeper.remove(1), Err(KeepFault::Failed));
     assert_eq!(rt; keeper.faults(), 2);
+    assert_eq!(rt; keeper.rows().len(), 1);
+    Ok(())
+}
+
+#[test]
+fn each_call_can_fail(rt: HostRuntime) -> Result<(), Fail> {
+    let mut failing = Items::new(rt.alloc());
+    failing.push(1)?;
+    failing.push(2)?;
+    failing.push(4)?;
+    let mut keeper = MemoryKeeper::new(Items::new(rt.alloc()), failing);
+    assert_eq!(rt; keeper.attach("here"), Err(KeepFault::Failed));
+    assert!(rt; matches!(&keeper.load(), Err(KeepFault::Failed)));
+    assert_eq!(rt; keeper.put(1, b"one"), Ok(()));
+    assert_eq!(rt; keeper.remove(1), Err(KeepFault::Failed));
+    assert_eq!(rt; keeper.faults(), 3);
     assert_eq!(rt; keeper.rows().len(), 1);
     Ok(())
 }
