@@ -1,5 +1,5 @@
 -- Texts one behind the other, which are read one by one.
-use Rattle.std.proofs.Common.{◌≡◌, ℕ, suc, ◌+◌, ◌<◌, List, [], ◌∷◌, ◌++◌, length, length-append, append-nil, append_assoc, refl, sym, ap, ◌∙◌, arith}
+use Rattle.std.proofs.Common.{◌≡◌, ℕ, suc, ◌+◌, subst, ◌<◌, List, [], ◌∷◌, ◌++◌, length, length-append, append-nil, append_assoc, refl, sym, ap, ◌∙◌, arith}
 use Rattle.std.proofs.lemmas.List.Concat.{flat_map-cons}
 use Rattle.std.specs.List.{All, flat_map}
 use Rattle.account_keeper.specs.declared.reading.RecordFault.{RecordFault}
@@ -61,3 +61,37 @@ module _ {A : Type 0} (text : A → List ℕ) (Fits : A → Type 0) where
   -- all were read
   pub all_done : (v done : List A) (rest more : List ℕ) → length done ≡ length v → Left text Fits v done rest more → (done ≡ v) × (rest ≡ more)
   all_done v done rest more same is = all_of v done is.0 rest more same is.1 is.3
+
+-- So many were read of the list of this length that stood before the reader, if one did, and these are they.
+pub record ReadSoFar {A : Type 0} (text : A → List ℕ) (Fits : A → Type 0) (size : ℕ) (before : List ℕ) (done : List A) (rest : List ℕ) (counter : ℕ) : Type 0 where
+  pub counted : length done ≡ counter
+  pub left : (v : List A) (more : List ℕ) → length v ≡ size → All Fits v → before ≡ flat_map text v ++ more → Left text Fits v done rest more
+
+module _ {A : Type 0} (text : A → List ℕ) (Fits : A → Type 0) (size : ℕ) (before : List ℕ) where
+  pub at_first : (done : List A) → done ≡ [] → ReadSoFar text Fits size before done before 0
+  at_first done none = record {
+    counted = ap length none;
+    left = λ v more n fits is. subst (λ (d : List A). Left text Fits v d before more) (sym none) (none_done text Fits v before more fits is);
+  }
+
+  pub at_next : (done longer : List A) (x : A) (rest after : List ℕ) (counter : ℕ) → ReadSoFar text Fits size before done rest counter → counter < size →
+      ((w : A) (m : List ℕ) → Fits w → rest ≡ text w ++ m → (x ≡ w) × (after ≡ m)) → longer ≡ done ++ x ∷ [] →
+      ReadSoFar text Fits size before longer after (counter + 1)
+  at_next done longer x rest after counter so_far lt reads is = record {
+    counted = omega (arith, ap length is, length-append done (x ∷ []), so_far.counted);
+    left = λ v more n fits at.
+        let further : length done < length v = omega (arith, so_far.counted, n, lt) in
+        subst (λ (d : List A). Left text Fits v d after more) (sym is) (one_more text Fits v done x rest after more further (so_far.left v more n fits at) reads);
+  }
+
+  pub not_next : (done : List A) (e : RecordFault) (rest : List ℕ) (counter : ℕ) → ReadSoFar text Fits size before done rest counter → counter < size →
+      ((w : A) (m : List ℕ) → Fits w → rest ≡ text w ++ m → e ≡ fault.Memory) →
+      (v : List A) (more : List ℕ) → (length v ≡ size) × All Fits v → before ≡ flat_map text v ++ more → e ≡ fault.Memory
+  not_next done e rest counter so_far lt reads v more fits at =
+      let further : length done < length v = omega (arith, so_far.counted, fits.0, lt) in
+      one_refused text Fits v done e rest more further (so_far.left v more fits.0 fits.1 at) reads
+
+  pub at_last : (done : List A) (rest : List ℕ) (counter : ℕ) → ReadSoFar text Fits size before done rest counter → counter ≡ size →
+      (v : List A) (more : List ℕ) → (length v ≡ size) × All Fits v → before ≡ flat_map text v ++ more → (done ≡ v) × (rest ≡ more)
+  at_last done rest counter so_far all v more fits at =
+      all_done text Fits v done rest more (omega (arith, so_far.counted, fits.0, all)) (so_far.left v more fits.0 fits.1 at)
