@@ -3,7 +3,7 @@ use Rattle.std.specs.Prelude.{◌≡◌, ℕ, Bool, List, [], ◌∷◌, ◌++�
 use Rattle.factor_chain.specs.declared.credentials.Stored.{Stored}
 use Rattle.account_rules.specs.declared.accounts.Account.{Account}
 use Rattle.account_keeper.specs.Record.{StoredFits, FitsRecord, privileges_byte}
-use Rattle.account_keeper.specs.Records.{HasNoId, HasNoIds}
+use Rattle.account_keeper.specs.Records.{HasNoId}
 use Rattle.account_keeper.specs.declared.reading.Head.{Head}
 use Rattle.account_keeper.specs.declared.reading.Terms.{Terms}
 use Rattle.account_keeper.specs.declared.reading.Guard.{Guard}

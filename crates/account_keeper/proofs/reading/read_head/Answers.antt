@@ -1,4 +1,4 @@
-use Rattle.std.proofs.Common.{◌∙◌, arith}
+use Rattle.std.proofs.Common.{◌∙◌}
 use Rattle.account_keeper.specs.Finding.{IsHead}
 use Rattle.account_keeper.specs.Record.{FitsRecord, head_text}
 use Rattle.account_keeper.proofs.Parts.{head_parts, refused, same_name}
