@@ -1,6 +1,10 @@
 pub mod Faults
 pub mod Keeping
+pub mod Links
+pub mod MemoryLinks
+pub mod MemoryParts
 pub mod MemoryStreams
 pub mod Plan
 pub mod PlanOf
 pub mod Streams
+pub mod Traffic

@@ -5,6 +5,7 @@ ghost use Rattle.lg_outside.specs.Plan.{after_call, fails_next};
 ghost use Rattle.lg_outside.specs.Streams.{Adds, Gives};
 ghost use Rattle.std.specs.Prelude.{◌≡◌, ◌<◌, ◌≤◌, ◌-◌, ◌||◌, Some, [], IfOk, OnErr, is_err, length, min, nat_lt};
 
+use crate::memory_parts::{Room, Unread};
 use crate::planned_faults::PlannedFaults;
 use crate::streams::{Failed, Sink, Source};
 use lg_base::{Bytes, Items, Memory};
@@ -14,20 +15,16 @@ use std::marker::Model;
 /// A source that gives the bytes that it was made with, and fails at listed reads.
 #[derive(Debug, Drop)]
 pub struct MemorySource {
-    bytes: Bytes,
-    given: usize,
+    unread: Unread,
     plan: PlannedFaults,
 }
 
 impl Model for MemorySource {
     ghost use Rattle.lg_outside.specs.MemoryStreams.{Stream};
-    ghost use Rattle.std.specs.Prelude.{◌≤◌, drop, length};
 
     ghost Value = { Stream };
 
-    ghost view = { λ s. record { bytes = drop s.given s.bytes; plan = s.plan } };
-
-    ghost invariant = { λ s. s.given ≤ length s.bytes };
+    ghost view = { λ s. record { bytes = s.unread.left; plan = s.plan } };
 }
 
 impl MemorySource {
@@ -36,8 +33,7 @@ impl MemorySource {
         ensures { result ≡ record { bytes = bytes; plan = record { failing = failing; calls = 0; faults = 0 } } }
     {
         MemorySource {
-            bytes,
-            given: 0,
+            unread: Unread::new(bytes),
             plan: PlannedFaults::new(failing),
         }
     }
@@ -63,11 +59,7 @@ impl Source for MemorySource {
         if self.plan.next_fails(false) {
             return Err(Failed);
         }
-        let left = &self.bytes.as_slice()[self.given..];
-        let count = left.len().min(buf.len());
-        buf[..count].copy_from_slice(&left[..count]);
-        self.given += count;
-        Ok(count)
+        Ok(self.unread.give(buf))
     }
 
     fn faults(&self) -> u64 {
@@ -78,20 +70,16 @@ impl Source for MemorySource {
 /// A sink with room for a number of bytes, which fails at listed writes and where the room is short.
 #[derive(Debug, Drop)]
 pub struct MemorySink {
-    room: Vec<u8>,
-    filled: usize,
+    store: Room,
     plan: PlannedFaults,
 }
 
 impl Model for MemorySink {
     ghost use Rattle.lg_outside.specs.MemoryStreams.{Store};
-    ghost use Rattle.std.specs.Prelude.{◌≤◌, take, length};
 
     ghost Value = { Store };
 
-    ghost view = { λ s. record { bytes = take s.filled s.room.items; room = length s.room.items; plan = s.plan } };
-
-    ghost invariant = { λ s. s.filled ≤ length s.room.items };
+    ghost view = { λ s. record { bytes = s.store.bytes; room = s.store.room; plan = s.plan } };
 }
 
 impl MemorySink {
@@ -100,8 +88,7 @@ impl MemorySink {
         ensures { IfOk result (λ made. made ≡ record { bytes = []; room = room; plan = record { failing = failing; calls = 0; faults = 0 } }) }
     {
         Ok(MemorySink {
-            room: vec![in alloc; 0; room]?,
-            filled: 0,
+            store: Room::new(alloc, room)?,
             plan: PlannedFaults::new(failing),
         })
     }
@@ -110,7 +97,7 @@ impl MemorySink {
     pub fn written(&self) -> &[u8]
         ensures { result.now ≡ self.now.bytes }
     {
-        &self.room.as_slice()[..self.filled]
+        self.store.bytes()
     }
 }
 
@@ -131,13 +118,10 @@ impl Sink for MemorySink {
         ensures room { self.new.room ≡ self.old.room }
         ensures err { OnErr result (self.new.bytes ≡ self.old.bytes) }
     {
-        let left = self.room.len() - self.filled;
-        if self.plan.next_fails(left < bytes.len()) {
+        if self.plan.next_fails(self.store.is_short(bytes)) {
             return Err(Failed);
         }
-        let end = self.filled + bytes.len();
-        self.room.as_mut_slice()[self.filled..end].copy_from_slice(bytes);
-        self.filled = end;
+        self.store.fill(bytes);
         Ok(())
     }
 

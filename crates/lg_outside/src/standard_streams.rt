@@ -56,6 +56,34 @@ impl<R: Read> Source for StdSource<R> {
     }
 }
 
+/// Writes at least one of the bytes, and answers how many. A write that takes nothing is a failure.
+fn write_some<W: Write>(writer: &mut W, bytes: &[u8]) -> Result<usize, Failed>
+    requires { 0 < length bytes.now }
+    ensures within { IfOk result (λ count. (1 ≤ count) × (count ≤ length bytes.now)) }
+    ensures writer { WriteAppends (W.contents writer.old) (W.contents writer.new) result bytes.now }
+{
+    let written = writer.write(bytes).unwrap_or(0);
+    if written == 0 {
+        return Err(Failed);
+    }
+    Ok(written)
+}
+
+/// Writes to the writer until that one took all. An error of the writer is a failure, and so is a write that
+/// takes nothing.
+pub(crate) fn write_whole<W: Write>(writer: &mut W, bytes: &[u8]) -> Result<(), Failed>
+    ensures { AddsTo (W.contents writer.old) (W.contents writer.new) result bytes.now }
+{
+    let mut left = bytes;
+    while !left.is_empty() {
+        match write_some(writer, left) {
+            Ok(count) => left = &left[count..],
+            Err(failed) => return Err(failed),
+        }
+    }
+    Ok(())
+}
+
 /// A sink over a writer, as standard output.
 #[derive(Debug, Drop)]
 pub struct StdSink<W> {
@@ -69,22 +97,6 @@ impl<W: Write> StdSink<W> {
         ensures { result ≡ record { writer = writer; faults = 0 } }
     {
         StdSink { writer, faults: 0 }
-    }
-
-    /// Writes at least one of the bytes, and answers how many. A write that takes nothing is a fault.
-    fn write_some(&mut self, bytes: &[u8]) -> Result<usize, Failed>
-        requires { 0 < length bytes.now }
-        ensures within { IfOk result (λ count. (1 ≤ count) × (count ≤ length bytes.now)) }
-        ensures rising { self.old.faults ≤ self.new.faults }
-        ensures writer { WriteAppends (W.contents self.old.writer) (W.contents self.new.writer) result bytes.now }
-        ensures count { self.new.faults ≡ (if is_err result then counted self.old.faults else self.old.faults) }
-    {
-        let written = self.writer.write(bytes).unwrap_or(0);
-        if written == 0 {
-            self.faults = self.faults.saturating_add(1);
-            return Err(Failed);
-        }
-        Ok(written)
     }
 }
 
@@ -103,14 +115,11 @@ impl<W: Write> Sink for StdSink<W> {
         ensures writer { AddsTo (W.contents self.old.writer) (W.contents self.new.writer) result bytes.now }
         ensures count { self.new.faults ≡ (if is_err result then counted self.old.faults else self.old.faults) }
     {
-        let mut left = bytes;
-        while !left.is_empty() {
-            match self.write_some(left) {
-                Ok(count) => left = &left[count..],
-                Err(failed) => return Err(failed),
-            }
+        let written = write_whole(&mut self.writer, bytes);
+        if written.is_err() {
+            self.faults = self.faults.saturating_add(1);
         }
-        Ok(())
+        written
     }
 
     fn faults(&self) -> u64 {

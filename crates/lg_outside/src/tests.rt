@@ -1,11 +1,18 @@
-//! Streams that are read and written piece by piece and fail in between, each seen through its trait.
+//! Streams and links that are read and written piece by piece and fail in between, each seen through its trait.
 
-use crate::{Failed, MemorySink, MemorySource, PlannedFaults, Sink, Source, StdSink, StdSource};
+ghost use Rattle.std.specs.Prelude.{◌≡◌, false};
+
+use crate::{
+    Dial, Failed, Link, MemoryLink, MemorySink, MemorySource, PlannedFaults, Sink, Source, StdSink,
+    StdSource, UnixLink,
+};
 use lg_base::{Bytes, Items, Memory};
 use std::alloc::Global;
 use std::io::{Error, ErrorKind, Read, Result as IoResult, Write};
+use std::os::unix::net::{UnixListener, UnixStream};
 use std::process::Abort;
 use std::test::Fail;
+use std::{fs, process};
 
 /// The numbers of the calls that are to fail.
 fn calls(alloc: Global, numbers: &[u64]) -> Result<Items<u64>, Memory> {
@@ -148,4 +155,86 @@ fn a_writer_is_a_sink(rt: HostRuntime) {
     check_write(&rt, &mut sink, b"defg", true, 2);
     check_write(&rt, &mut sink, b"hij", false, 2);
     assert_eq!(rt; written.as_slice(), b"abdehij".as_slice());
+}
+
+/// Reads from a link into room for three bytes, and compares the bytes, whether the read failed, and the count
+/// of faults.
+fn check_receive<L: Link>(rt: &impl Abort, link: &mut L, bytes: &[u8], failed: bool, faults: u64)
+    requires { L.finished link.old ≡ false }
+    ensures { L.finished link.new ≡ false }
+{
+    let mut piece = [0u8; 3];
+    match link.read(&mut piece) {
+        Ok(count) => {
+            assert_eq!(rt; &piece[..count], bytes);
+            assert!(rt; !failed);
+        }
+        Err(Failed) => assert!(rt; failed),
+    }
+    assert_eq!(rt; link.faults(), faults);
+}
+
+/// Writes the bytes to a link, and compares whether the write failed and the count of faults.
+fn check_send<L: Link>(rt: &impl Abort, link: &mut L, bytes: &[u8], failed: bool, faults: u64)
+    requires { L.finished link.old ≡ false }
+    ensures { L.finished link.new ≡ false }
+{
+    let result = link.write_all(bytes);
+    assert_eq!(rt; result.is_err(), failed);
+    assert_eq!(rt; link.faults(), faults);
+}
+
+#[test]
+fn the_calls_of_a_link_in_memory_are_numbered_together(rt: HostRuntime) -> Result<(), Fail> {
+    let bytes = Bytes::copy(rt.alloc(), b"abcde")?;
+    let failing = calls(rt.alloc(), &[2, 3, 5])?;
+    let mut link = MemoryLink::new(rt.alloc(), bytes, 4, false, failing)?;
+    check_receive(&rt, &mut link, b"abc", false, 0);
+    check_send(&rt, &mut link, b"x", true, 1);
+    assert!(rt; link.dial("nowhere").is_err());
+    check_send(&rt, &mut link, b"xyz", false, 2);
+    check_receive(&rt, &mut link, b"", true, 3);
+    assert!(rt; link.dial("nowhere").is_ok());
+    check_receive(&rt, &mut link, b"de", false, 3);
+    check_send(&rt, &mut link, b"uv", true, 4);
+    check_receive(&rt, &mut link, b"", false, 4);
+    assert!(rt; !link.is_local());
+    link.finish();
+    assert_eq!(rt; link.written(), b"xyz".as_slice());
+    assert_eq!(rt; link.faults(), 4);
+    Ok(())
+}
+
+#[test]
+fn a_link_in_memory_says_where_its_peer_is(rt: HostRuntime) -> Result<(), Fail> {
+    let bytes = Bytes::copy(rt.alloc(), b"")?;
+    let link = MemoryLink::new(rt.alloc(), bytes, 0, true, calls(rt.alloc(), &[])?)?;
+    assert!(rt; link.is_local());
+    assert!(rt; link.written().is_empty());
+    Ok(())
+}
+
+#[test]
+fn a_unix_socket_is_a_link(rt: HostRuntime) -> Result<(), Fail> {
+    let id = process::id(rt.process());
+    let path = format!(in rt.alloc(); "/tmp/lg_outside-{id}.sock")?;
+    let mut link = UnixLink::new(&rt);
+    check_receive(&rt, &mut link, b"", true, 1);
+    check_send(&rt, &mut link, b"ab", true, 2);
+    assert!(rt; link.dial(path.as_str()).is_err());
+    let listener = UnixListener::bind(&rt, path.as_str())?;
+    assert!(rt; link.dial(path.as_str()).is_ok());
+    let (stream, _) = listener.accept()?;
+    fs::remove_file(&rt, path.as_str())?;
+    let mut peer = UnixLink::over((), stream);
+    check_send(&rt, &mut link, b"abcd", false, 3);
+    check_receive(&rt, &mut peer, b"abc", false, 0);
+    check_send(&rt, &mut peer, b"x", false, 0);
+    check_receive(&rt, &mut peer, b"d", false, 0);
+    check_receive(&rt, &mut link, b"x", false, 3);
+    assert!(rt; link.is_local());
+    link.finish();
+    check_receive(&rt, &mut peer, b"", false, 0);
+    check_send(&rt, &mut peer, b"y", true, 1);
+    Ok(())
 }

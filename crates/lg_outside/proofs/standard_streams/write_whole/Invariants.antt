@@ -1,0 +1,11 @@
+-- What is gone from `left` was written.
+use Rattle.std.proofs.Common.{◌≡◌, ℕ, List, ◌++◌, length}
+use Rattle.std.specs.Io.KnownBytes.{Appends}
+use Rattle.lg_outside.proofs.standard_streams.write_whole.Given as goal
+
+abbrev pub invariant-loop-left : goal.invariant-loop-left
+invariant-loop-left g l =
+    (done : List ℕ) × (l.initial.left ≡ done ++ l.left) × Appends (g.W.Write.contents l.fn.writer) (g.W.Write.contents l.writer) done
+
+abbrev pub decreases-loop-left : goal.decreases-loop-left
+decreases-loop-left g l = length l.left
