@@ -487,3 +487,24 @@ expects p want h (Failed fault) at_fault more none =
     let is = front-fault p.limit p.want p.start fault (framing p).held at_fault.2 in
     let taken : length (framing p).held ≡ 0 = sym (ap (λ f. unfinished_length f (length (framing p).held)) is) ∙ none in
     absurd (omega (arith, taken, fault-length p.limit p.want p.start fault (framing p).held at_fault.2))
+
+-- how many bytes are missing, by what is read next
+pub missing-header : (p : Progress) → IsProgress p → p.stage ≡ Header → missing_of (front_of (framing p)) ≡ 4 - p.seen
+missing-header p h at_header =
+    let stands = subst (Stands p) at_header h.stands in
+    ap missing_of (found-header p h stands.0 stands.1)
+
+pub missing-payload : (p : Progress) (size : ℕ) → IsProgress p → p.stage ≡ Payload size → missing_of (front_of (framing p)) ≡ p.full * full_size + size - length p.payload.items
+missing-payload p size h at_payload =
+    let stands = subst (Stands p) at_payload h.stands in
+    ap missing_of (found-payload p size h stands.0 stands.1)
+
+pub missing-ready : (p : Progress) → IsProgress p → p.stage ≡ Ready → missing_of (front_of (framing p)) ≡ 0
+missing-ready p h at_ready =
+    let stands = subst (Stands p) at_ready h.stands in
+    ap missing_of (found-ready p stands.0 h stands.1 stands.2 stands.3)
+
+pub missing-failed : (p : Progress) (fault : FrameFault) → IsProgress p → p.stage ≡ Failed fault → missing_of (front_of (framing p)) ≡ 0
+missing-failed p fault h at_fault =
+    let stands = subst (Stands p) at_fault h.stands in
+    ap missing_of (front-fault p.limit p.want p.start fault (framing p).held stands.2)

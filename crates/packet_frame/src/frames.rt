@@ -2,7 +2,7 @@
 //!
 //! MySQL client/server protocol documentation, "MySQL Packets" and "Sending More Than 16Mb".
 
-ghost use Rattle.packet_frame.specs.Framing.{new_framing, place_of, front_of, held_length, IsWhole, IsReading, Takes, Refuses, TakesPacket, after_expect};
+ghost use Rattle.packet_frame.specs.Framing.{new_framing, place_of, front_of, held_length, IsWhole, IsReading, Takes, Refuses, TakesPacket, after_expect, missing_of};
 ghost use Rattle.packet_frame.specs.Front.{Part, Fault};
 ghost use Rattle.std.specs.Prelude.{◌≡◌, ◌⊎◌, ◌↔◌, ◌+◌, ◌^◌, ◌≤◌, [], length, IfOk, IfErr, IfSome, IfNone, IsTrue};
 
@@ -96,6 +96,15 @@ impl Frames {
         ensures reading { IsReading self.now }
     {
         self.progress.held()
+    }
+
+    /// How many bytes end the present header, or the present piece of payload: as many as `feed` takes at most.
+    /// It is 0 where a packet waits, and after a fault.
+    pub fn missing(&self) -> usize
+        ensures missing { result ≡ missing_of (front_of self.now) }
+        ensures reading { IsReading self.now }
+    {
+        self.progress.missing()
     }
 
     /// How many bytes of the stream were taken.

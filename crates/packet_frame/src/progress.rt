@@ -2,7 +2,7 @@
 //!
 //! MySQL client/server protocol documentation, "MySQL Packets" and "Sending More Than 16Mb".
 
-ghost use Rattle.packet_frame.specs.Framing.{new_framing, place_of, held_length, front_of, after_expect, IsSound, IsWhole, IsReading, Takes, Refuses, TakesPacket};
+ghost use Rattle.packet_frame.specs.Framing.{new_framing, place_of, held_length, front_of, after_expect, missing_of, IsSound, IsWhole, IsReading, Takes, Refuses, TakesPacket};
 ghost use Rattle.packet_frame.specs.Front.{Fault};
 ghost use Rattle.packet_frame.specs.Packets.{full_size, pieces_text, header_text, Wants, IsRefused};
 ghost use Rattle.packet_frame.specs.Progress.{framing, done_pieces, header_place, IsProgress, IsBetween};
@@ -248,6 +248,20 @@ impl Progress {
             Stage::Payload { size } => self.take_payload(size, piece),
             Stage::Ready => Ok(0),
             Stage::Failed(fault) => Err(fault),
+        }
+    }
+
+    /// How many bytes end the present header or piece of payload, where one is read.
+    pub fn missing(&self) -> usize
+        requires { IsProgress self.now }
+        ensures value { result ≡ missing_of (front_of (framing self.now)) }
+        ensures reading { IsReading (framing self.now) }
+    {
+        match self.stage {
+            Stage::Header => 4 - self.seen,
+            Stage::Payload { size } => self.full * FULL + size - self.payload.len(),
+            Stage::Ready => 0,
+            Stage::Failed(_) => 0,
         }
     }
 

@@ -99,12 +99,17 @@ fn no_bytes_are_no_packet(rt: HostRuntime) -> Result<(), Fail> {
 #[test]
 fn a_packet_is_held_until_it_is_whole(rt: HostRuntime) -> Result<(), Fail> {
     let mut frames = Frames::new(rt.alloc(), LIMIT, Want::Exactly(0));
-    assert_eq!(rt; frames.feed(&[1, 0, 0, 0, 7, 1]), Ok(4));
+    assert_eq!(rt; frames.missing(), 4);
+    assert_eq!(rt; frames.feed(&[1, 0]), Ok(2));
+    assert_eq!(rt; frames.missing(), 2);
+    assert_eq!(rt; frames.feed(&[0, 0, 7, 1]), Ok(2));
     assert!(rt; !frames.ready());
     assert_eq!(rt; frames.held(), 4);
+    assert_eq!(rt; frames.missing(), 1);
     assert_eq!(rt; frames.feed(&[7, 1]), Ok(1));
     assert!(rt; frames.ready());
     assert_eq!(rt; frames.held(), 0);
+    assert_eq!(rt; frames.missing(), 0);
     assert_eq!(rt; frames.feed(&[1]), Ok(0));
     let packet = frames.take().ok_or("no packet")?;
     assert_eq!(rt; packet.payload.as_slice(), [7].as_slice());
