@@ -1,0 +1,4 @@
+pub mod Moves
+pub mod Packets
+pub mod Responses
+pub mod Standing

@@ -1,0 +1,10 @@
+pub mod Acting
+pub mod Claims
+pub mod Clients
+pub mod Conversation
+pub mod Exchange
+pub mod Hearing
+pub mod Methods
+pub mod Phases
+pub mod Reading
+pub mod Talk

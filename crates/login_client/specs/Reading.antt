@@ -1,0 +1,46 @@
+-- What comes of reading one packet from a link.
+use Rattle.std.specs.Prelude.{◌≡◌, ℕ, ◌+◌, ◌≤◌, List, [], ◌++◌, length, Option}
+use Rattle.lg_outside.specs.Traffic.{Traffic}
+use Rattle.packet_frame.specs.Framing.{Framing}
+use Rattle.packet_frame.specs.Packets.{id_after, IsPacket, IsFault}
+use Rattle.packet_frame.specs.Streams.{Ending, IsEnding}
+use Rattle.packet_frame.specs.declared.packets.Packet.{Packet}
+use Rattle.packet_frame.specs.declared.packets.Want.TheVariants.{Exactly}
+use Rattle.packet_frame.specs.declared.packets.FrameFault.{FrameFault}
+use Rattle.packet_frame.specs.declared.packets.FrameFault.TheVariants.{TooLarge, OutOfOrder, Memory as NoMemory}
+use Rattle.login_client.specs.Exchange.{IsAtEnd, IsOpen, Moved, longest_payload}
+use Rattle.login_client.specs.declared.ends.LoginEnd.{LoginEnd}
+use Rattle.login_client.specs.declared.ends.LoginEnd.TheVariants.{Framing as ByFraming, PeerClosed, LinkFault, Memory}
+
+-- a reader between two packets, at a place of the stream, that wants this id next
+abbrev pub between : (id place : ℕ) → Framing
+between id place = record { limit = longest_payload; want = Exactly id; start = place; held = [] }
+
+-- the most bytes of a packet, its header included
+abbrev pub longest_packet : ℕ
+longest_packet = 1048580
+
+-- a packet was read
+pub record ReadsPacket (id place : ℕ) (before after : Option Traffic) (packet : Packet) (now : Framing) : Type 0 where
+  pub head : List ℕ
+  pub moved : Moved before after head []
+  pub is_packet : IsPacket longest_payload (Exactly id) packet.first packet.last packet.payload head
+  pub short : length head ≤ longest_packet
+  pub now_is : now ≡ between (id_after packet.last) (place + length head)
+
+-- how a login ends at a fault of its packets
+abbrev pub end_at : FrameFault → LoginEnd
+end_at NoMemory = Memory
+end_at (TooLarge at) = ByFraming (TooLarge at)
+end_at (OutOfOrder at want got) = ByFraming (OutOfOrder at want got)
+
+-- no packet was read, since the login ended
+pub data Stops (id place : ℕ) (before after : Option Traffic) (Rises : Type 0) : LoginEnd → Type 0 where
+  framing : (got : List ℕ) (fault : FrameFault) → Moved before after got [] → IsFault longest_payload (Exactly id) place fault got
+      → Stops id place before after Rises (ByFraming fault)
+  closed : (got : List ℕ) (ending : Ending) → Moved before after got [] → IsEnding longest_payload (Exactly id) place got ending
+      → IsOpen ending → IsAtEnd after → Stops id place before after Rises PeerClosed
+  failed : (got : List ℕ) (ending : Ending) → Moved before after got [] → IsEnding longest_payload (Exactly id) place got ending
+      → Rises → Stops id place before after Rises LinkFault
+  no_memory : (got more : List ℕ) (ending : Ending) → Moved before after (got ++ more) [] → IsEnding longest_payload (Exactly id) place got ending
+      → Stops id place before after Rises Memory
