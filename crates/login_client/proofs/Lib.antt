@@ -1,4 +1,7 @@
 pub mod Moves
 pub mod Packets
+pub mod Reaching
 pub mod Responses
 pub mod Standing
+pub mod Turns
+pub mod Within

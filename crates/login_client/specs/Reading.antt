@@ -1,5 +1,5 @@
--- What comes of reading one packet from a link.
-use Rattle.std.specs.Prelude.{◌≡◌, ℕ, ◌+◌, ◌≤◌, List, [], ◌++◌, length, Option}
+-- What comes of reading one packet from a link, of writing one, and of a turn that does both.
+use Rattle.std.specs.Prelude.{◌≡◌, ℕ, suc, ◌+◌, ◌≤◌, List, [], ◌++◌, length, take, Option}
 use Rattle.lg_outside.specs.Traffic.{Traffic}
 use Rattle.packet_frame.specs.Framing.{Framing}
 use Rattle.packet_frame.specs.Packets.{id_after, IsPacket, IsFault}
@@ -8,7 +8,8 @@ use Rattle.packet_frame.specs.declared.packets.Packet.{Packet}
 use Rattle.packet_frame.specs.declared.packets.Want.TheVariants.{Exactly}
 use Rattle.packet_frame.specs.declared.packets.FrameFault.{FrameFault}
 use Rattle.packet_frame.specs.declared.packets.FrameFault.TheVariants.{TooLarge, OutOfOrder, Memory as NoMemory}
-use Rattle.login_client.specs.Exchange.{IsAtEnd, IsOpen, Moved, longest_payload}
+use Rattle.login_client.specs.Exchange.{EndsWithin, IsAtEnd, IsExchange, IsOpen, Moved, Stand, longest_payload}
+use Rattle.login_client.specs.Talk.{Talk, IsWaiting}
 use Rattle.login_client.specs.declared.ends.LoginEnd.{LoginEnd}
 use Rattle.login_client.specs.declared.ends.LoginEnd.TheVariants.{Framing as ByFraming, PeerClosed, LinkFault, Memory}
 
@@ -44,3 +45,30 @@ pub data Stops (id place : ℕ) (before after : Option Traffic) (Rises : Type 0)
       → Rises → Stops id place before after Rises LinkFault
   no_memory : (got more : List ℕ) (ending : Ending) → Moved before after (got ++ more) [] → IsEnding longest_payload (Exactly id) place got ending
       → Stops id place before after Rises Memory
+
+-- a packet was written, and `next` is the id behind it
+pub record Writes (first : ℕ) (payload : List ℕ) (before after : Option Traffic) (next : ℕ) : Type 0 where
+  pub text : List ℕ
+  pub last : ℕ
+  pub is_packet : IsPacket (length payload) (Exactly first) first last payload text
+  pub moved : Moved before after [] text
+  pub next_is : next ≡ id_after last
+
+-- no packet was written, or a part of it
+pub data Fails (first : ℕ) (payload : List ℕ) (before after : Option Traffic) (Rises : Type 0) : LoginEnd → Type 0 where
+  cut : (text : List ℕ) (last count : ℕ) → IsPacket (length payload) (Exactly first) first last payload text → Moved before after [] (take count text)
+      → Rises → Fails first payload before after Rises LinkFault
+  unwritten : Moved before after [] [] → Fails first payload before after Rises Memory
+
+-- A turn after which the login goes on: with these bytes got and those sent, whatever follows continues the talk.
+pub record GoesOn (n : ℕ) (talk : Talk) (id place : ℕ) (before after : Option Traffic) (now : Talk) (frames : Framing) : Type 0 where
+  pub got : List ℕ
+  pub sent : List ℕ
+  pub next : ℕ
+  pub moved : Moved before after got sent
+  pub short : length got ≤ longest_packet
+  pub frames_are : frames ≡ between next (place + length got)
+  pub waits : IsWaiting now
+  pub fewer : (less : ℕ) × (n ≡ suc less) × EndsWithin less now
+  pub follows : (more later : List ℕ) (stand : Stand) → IsExchange now next (place + length got) more later stand
+      → IsExchange talk id place (got ++ more) (sent ++ later) stand

@@ -15,3 +15,4 @@ pub mod phases;
 pub use claims::{Claim, ClientOptions, Secrets};
 pub use client::Client;
 pub use ends::{ClientAct, LoginEnd, Reason};
+pub use logins::login;
