@@ -1,7 +1,9 @@
+pub mod Keeping
 pub mod Moves
 pub mod Packets
 pub mod Reaching
 pub mod Responses
 pub mod Standing
+pub mod Talking
 pub mod Turns
 pub mod Within

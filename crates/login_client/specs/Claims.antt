@@ -1,12 +1,10 @@
 -- Who logs in: the user, the secrets of the factors, and what the client may do.
-use Rattle.std.specs.Prelude.{◌≡◌, ℕ, List, Contains, Option, IfSome, Bool, false}
+use Rattle.std.specs.Prelude.{◌≡◌, IfSome, false}
+use Rattle.login_client.specs.Zeros.{HasNoZero}
 use Rattle.auth_packets.specs.Flags.{HasNeeded, is_set, CONNECT_WITH_DB, CONNECT_ATTRS}
 use Rattle.login_client.specs.declared.claims.Claim.{Claim}
 use Rattle.login_client.specs.declared.claims.Secrets.{Secrets}
 use Rattle.login_client.specs.declared.claims.ClientOptions.{ClientOptions}
-
-abbrev pub HasNoZero : List ℕ → Type 0
-HasNoZero text = ¬ Contains text 0
 
 -- no secret holds the byte 00, which ends a secret that is written in the clear
 pub record AreFit (secrets : Secrets) : Type 0 where

@@ -7,4 +7,7 @@ pub mod Hearing
 pub mod Methods
 pub mod Phases
 pub mod Reading
+pub mod Secrets
 pub mod Talk
+pub mod Talked
+pub mod Zeros

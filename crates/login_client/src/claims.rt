@@ -1,7 +1,9 @@
 //! Who logs in, with which secrets, and what the client may do.
 
-ghost use Rattle.std.specs.Prelude.{◌≡◌, IfOk};
+ghost use Rattle.login_client.specs.Zeros.{HasNoZero};
+ghost use Rattle.std.specs.Prelude.{◌≡◌, ◌↔◌, IfOk, IfSome, IsTrue};
 
+use auth_packets::flags::{CONNECT_ATTRS, CONNECT_WITH_DB, has_needed, is_set};
 use lg_base::{Bytes, Memory};
 use std::alloc::Global;
 
@@ -34,6 +36,40 @@ pub struct Claim {
     pub local: bool,
 }
 
+/// Whether a text holds no byte 00, so that one can end it.
+pub fn has_no_zero(text: &[u8]) -> bool
+    ensures { IsTrue result ↔ HasNoZero text.now }
+{
+    !text.iter().any(|x| *x == 0)
+}
+
+/// Whether a secret, if there is one, holds no byte 00.
+fn has_no_zero_if_some(secret: &Option<Bytes>) -> bool
+    ensures { IsTrue result ↔ IfSome secret.now HasNoZero }
+{
+    match secret {
+        Some(secret) => has_no_zero(secret.as_slice()),
+        None => true,
+    }
+}
+
+impl ClientOptions {
+    ghost use Rattle.login_client.specs.Claims.{AreUsable};
+
+    /// Whether the flags have those that both ends need, and none that tells of a database or of attributes.
+    pub fn are_usable(&self) -> bool
+        ensures { IsTrue result ↔ AreUsable self.now }
+    {
+        if !has_needed(self.flags) {
+            return false;
+        }
+        if is_set(CONNECT_WITH_DB, self.flags) {
+            return false;
+        }
+        !is_set(CONNECT_ATTRS, self.flags)
+    }
+}
+
 /// A copy of a secret, if there is one.
 fn copy_if_some(alloc: Global, secret: &Option<Bytes>) -> Result<Option<Bytes>, Memory>
     ensures { IfOk result (λ copied. copied ≡ secret.now) }
@@ -45,6 +81,21 @@ fn copy_if_some(alloc: Global, secret: &Option<Bytes>) -> Result<Option<Bytes>, 
 }
 
 impl Secrets {
+    ghost use Rattle.login_client.specs.Claims.{AreFit};
+
+    /// Whether no secret holds a byte 00.
+    pub fn are_fit(&self) -> bool
+        ensures { IsTrue result ↔ AreFit self.now }
+    {
+        if !has_no_zero(self.first.as_slice()) {
+            return false;
+        }
+        if !has_no_zero_if_some(&self.second) {
+            return false;
+        }
+        has_no_zero_if_some(&self.third)
+    }
+
     /// The same secrets, in memory of their own.
     pub(crate) fn copy(&self, alloc: Global) -> Result<Secrets, Memory>
         ensures { IfOk result (λ copied. copied ≡ self.now) }

@@ -1,7 +1,8 @@
 //! A client that is given the server's packets, and says what to write.
 
 ghost use Rattle.login_client.specs.Acting.{Acts};
-ghost use Rattle.login_client.specs.Claims.{AreFit, AreUsable, HasNoZero, IsSound};
+ghost use Rattle.login_client.specs.Claims.{AreFit, AreUsable, IsSound};
+ghost use Rattle.login_client.specs.Zeros.{HasNoZero};
 ghost use Rattle.login_client.specs.Conversation.{conversation};
 ghost use Rattle.login_client.specs.Phases.{StepsAt, act_of};
 ghost use Rattle.login_client.specs.Talk.{IsWaiting};

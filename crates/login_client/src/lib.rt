@@ -8,11 +8,12 @@ pub mod claims;
 pub mod client;
 pub mod ends;
 pub mod hearing;
+pub mod laws;
 pub mod logins;
 pub mod methods;
 pub mod phases;
 
-pub use claims::{Claim, ClientOptions, Secrets};
+pub use claims::{Claim, ClientOptions, Secrets, has_no_zero};
 pub use client::Client;
 pub use ends::{ClientAct, LoginEnd, Reason};
 pub use logins::login;

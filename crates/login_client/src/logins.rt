@@ -3,7 +3,8 @@
 //! MySQL client/server protocol documentation, "Connection Phase" and "MySQL Packets".
 
 ghost use Rattle.lg_outside.specs.Faults.{Rose};
-ghost use Rattle.login_client.specs.Claims.{AreFit, AreUsable, HasNoZero};
+ghost use Rattle.login_client.specs.Claims.{AreFit, AreUsable};
+ghost use Rattle.login_client.specs.Zeros.{HasNoZero};
 ghost use Rattle.login_client.specs.Clients.{talk_of};
 ghost use Rattle.login_client.specs.Conversation.{conversation};
 ghost use Rattle.login_client.specs.Exchange.{EndsAs, EndsWithin};

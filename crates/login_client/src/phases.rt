@@ -2,7 +2,8 @@
 //!
 //! MySQL client/server protocol documentation, "Connection Phase".
 
-ghost use Rattle.login_client.specs.Claims.{HasNoZero, AreUsable};
+ghost use Rattle.login_client.specs.Claims.{AreUsable};
+ghost use Rattle.login_client.specs.Zeros.{HasNoZero};
 ghost use Rattle.login_client.specs.Conversation.{answered, asked, cached, clear, ended, factor, factors, full, greeted, nonced, opened_by, responded, response_to, switched};
 ghost use Rattle.login_client.specs.Methods.{nonce_of};
 ghost use Rattle.login_client.specs.Phases.{Stands, end_of, secrets_from, talk_at};

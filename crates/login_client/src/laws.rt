@@ -1,0 +1,48 @@
+//! Laws of a client's talk, for the crates that stand on this one. The functions do nothing: what they say is in
+//! their contracts.
+
+ghost use Rattle.login_client.specs.Acting.{Acts};
+ghost use Rattle.login_client.specs.Conversation.{ClientTalk, conversation};
+ghost use Rattle.login_client.specs.Exchange.{EndsWithin, IsExchange, Stand};
+ghost use Rattle.login_client.specs.Secrets.{KeepsTo};
+ghost use Rattle.login_client.specs.Talk.{IsWaiting, Leads, Talk};
+ghost use Rattle.login_client.specs.Talked.{AreGot, AreWritten, Talked, result_in, said_by};
+ghost use Rattle.std.specs.Prelude.{◌≡◌, ◌∷◌, [], ◌++◌, ℕ, List, Option};
+
+use crate::claims::Claim;
+use crate::ends::ClientAct;
+use crate::hearing::Heard;
+use packet_frame::Packet;
+
+/// What a client does at one packet more is what its talk comes to with that payload more.
+pub fn clients_follow_their_talk()
+    ensures { (start : Talk) (got written : List (List ℕ)) (now : Talk) (packet : Packet) (act : Option ClientAct) (next : Talk) →
+        Leads start got written now → IsWaiting now → Acts now packet act next →
+        Leads start (got ++ packet.payload ∷ []) (written ++ said_by act) next }
+{}
+
+/// An exchange over packets is the talk over the payloads in them.
+pub fn exchanges_are_talks()
+    ensures { (talk : Talk) (id place : ℕ) (got sent : List ℕ) (stand : Stand) →
+        IsExchange talk id place got sent stand → Talked talk got sent stand }
+{}
+
+/// An exchange of a login is the client's talk over the payloads in it.
+pub fn logins_are_client_talks()
+    ensures { (claim : Claim) (id place : ℕ) (got sent : List ℕ) (stand : Stand) →
+        IsExchange (conversation claim) id place got sent stand →
+        (payloads written : List (List ℕ)) × ClientTalk claim payloads written (result_in stand)
+        × AreGot payloads got stand × AreWritten written sent }
+{}
+
+/// A login hears at most six payloads, and ends by itself, with none of the ends that a link or want of memory
+/// makes.
+pub fn logins_end()
+    ensures { (claim : Claim) → EndsWithin 6 (conversation claim) }
+{}
+
+/// A secret is said in the clear to a server on this machine alone: after 01 04, or where the method is permitted
+/// after a switch to it or for a further factor.
+pub fn secrets_are_kept()
+    ensures { (claim : Claim) (heard : Heard) → KeepsTo claim heard (conversation claim) }
+{}
