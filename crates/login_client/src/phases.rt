@@ -181,11 +181,11 @@ impl Claim {
     fn on_full(&self, alloc: Global) -> Result<Step, Memory>
         ensures { IfOk result (λ step. Stands self.now step (full self.now)) }
     {
-        if !self.local {
-            return Ok(over(LoginEnd::WontSend(Reason::NotLocal)));
+        if self.local {
+            let text = clear(alloc, self.secrets.first.as_slice())?;
+            return Ok(says(text, Phase::Factors(Next::Second)));
         }
-        let text = clear(alloc, self.secrets.first.as_slice())?;
-        Ok(says(text, Phase::Factors(Next::Second)))
+        Ok(over(LoginEnd::WontSend(Reason::NotLocal)))
     }
 
     /// At a payload after an answer by caching_sha2_password.
