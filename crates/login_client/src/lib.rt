@@ -1,7 +1,12 @@
 //! The client's end of a login to a MySQL server.
 //!
-//! **[`login`] writes the payloads of `client_talk` for the payloads that the server sent, and ends with its
-//! result; a secret is written in the clear only to a server on this machine.**
+//! **[`login`] writes the payloads of the client's talk for the payloads that the server sent, and ends with the
+//! talk's result; a secret is written in the clear only to a server on this machine.** The talk is
+//! `conversation` of specs/Conversation.antt, and `laws` says what it comes to over payloads and packets.
+//!
+//! It follows "Connection Phase" of the MySQL client/server protocol documentation. Below stand `auth_packets`
+//! for the messages, `packet_frame` for packets, `native_scramble` and `caching_sha2` for the answers, and
+//! `lg_outside` for the link. [`Client`] is the same without a link: it is given packets.
 #![tactic(auto)]
 
 pub mod claims;
