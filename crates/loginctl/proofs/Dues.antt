@@ -58,3 +58,8 @@ wrote-nothing (Some before) = ap (λ (w : List ℕ). Some w) (sym (append-nil be
 pub printed-as : (before after : Option (List ℕ)) (rose : Type 0) (status : ℕ) (text same : List ℕ) (result : ℕ) → text ≡ same
     → Printed before after rose status text result → Printed before after rose status same result
 printed-as before after rose status text same result e p = subst (λ (t : List ℕ). Printed before after rose status t result) e p
+
+-- the same with an equal status
+pub printed-with : (before after : Option (List ℕ)) (rose : Type 0) (status due : ℕ) (text same : List ℕ) (result : ℕ) → status ≡ due → text ≡ same
+    → Printed before after rose status text result → Printed before after rose due same result
+printed-with before after rose status due text same result e f p = subst (λ (s : ℕ). Printed before after rose s same result) e (printed-as before after rose status text same result f p)

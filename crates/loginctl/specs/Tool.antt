@@ -1,7 +1,10 @@
 -- What the words and the input of `loginctl` are answered.
 use Rattle.std.specs.Prelude.{◌≡◌, Bool, true, false, ℕ, List, [], ◌∷◌, ◌++◌, codes, take, Option, Some, None}
 use Rattle.std.specs.Str.{bytes_eq}
+use Rattle.lg_outside.specs.Traffic.{Traffic}
 use Rattle.loginctl.specs.Frames.{AnswersFrames}
+use Rattle.loginctl.specs.LoginWords.{Choice, Chooses}
+use Rattle.loginctl.specs.Logins.{AnswersLogin}
 use Rattle.loginctl.specs.Printing.{Printed, Wrote}
 use Rattle.loginctl.specs.Replayed.{replay_text}
 use Rattle.loginctl.specs.Session.{IsOneSession}
@@ -36,18 +39,31 @@ abbrev pub Due : Option (List ℕ) → ℕ → List ℕ → Type 0
 Due None status text = (input : List ℕ) × IsDue input status text
 Due (Some input) status text = IsDue input status text
 
--- What a run answers, by its words, the bytes that the source told, what was written before and after, and whether
--- the counts of faults rose.
-pub data Answers (words : List (List ℕ)) (left before after : Option (List ℕ)) (SourceRose SinkRose : Type 0) : ℕ → Type 0 where
-  -- the words are of no form
-  usage : (result : ℕ) → is_replay_words words ≡ false → is_frames_words words ≡ false → Printed before after SinkRose 2 usage_text result → Answers words left before after SourceRose SinkRose result
+-- What words answer that are neither `replay` nor `frames`, by what the link told before and after, what was written
+-- before and after, and whether the counts of faults rose.
+pub data AnswersOther (words : List (List ℕ)) (local : Bool) (told told' : Option Traffic) (LinkRose : Type 0) (before after : Option (List ℕ)) (SinkRose : Type 0) : ℕ → Type 0 where
+  -- they are those of a login
+  login : (choice : Choice) (result : ℕ) → Chooses words choice → AnswersLogin choice local told told' LinkRose before after SinkRose result
+      → AnswersOther words local told told' LinkRose before after SinkRose result
+  -- they are of no form
+  usage : (result : ℕ) → ((choice : Choice) → Chooses words choice → ⊥) → told' ≡ told → Printed before after SinkRose 2 usage_text result
+      → AnswersOther words local told told' LinkRose before after SinkRose result
+  -- there was no memory to read them
+  unread : told' ≡ told → Wrote before after [] → AnswersOther words local told told' LinkRose before after SinkRose 6
+
+-- What a run answers, by its words, the bytes that the source told, what the link told and what was written before and
+-- after, and whether the counts of faults rose.
+pub data Answers (words : List (List ℕ)) (left : Option (List ℕ)) (local : Bool) (told told' : Option Traffic) (before after : Option (List ℕ)) (SourceRose LinkRose SinkRose : Type 0) : ℕ → Type 0 where
+  -- the words are neither `replay` nor `frames`
+  other : (result : ℕ) → is_replay_words words ≡ false → is_frames_words words ≡ false → AnswersOther words local told told' LinkRose before after SinkRose result
+      → Answers words left local told told' before after SourceRose LinkRose SinkRose result
   -- packets are listed
-  frames : (result : ℕ) → is_frames_words words ≡ true → AnswersFrames left before after SourceRose SinkRose result
-      → Answers words left before after SourceRose SinkRose result
+  frames : (result : ℕ) → is_frames_words words ≡ true → told' ≡ told → AnswersFrames left before after SourceRose SinkRose result
+      → Answers words left local told told' before after SourceRose LinkRose SinkRose result
   -- the script was read to its end, or past the limit
-  ran : (result status : ℕ) (text : List ℕ) → is_replay_words words ≡ true → Due left status text
-      → Printed before after SinkRose status text result → Answers words left before after SourceRose SinkRose result
+  ran : (result status : ℕ) (text : List ℕ) → is_replay_words words ≡ true → told' ≡ told → Due left status text
+      → Printed before after SinkRose status text result → Answers words left local told told' before after SourceRose LinkRose SinkRose result
   -- the source failed
-  source_fault : is_replay_words words ≡ true → SourceRose → Wrote before after [] → Answers words left before after SourceRose SinkRose 4
+  source_fault : is_replay_words words ≡ true → told' ≡ told → SourceRose → Wrote before after [] → Answers words left local told told' before after SourceRose LinkRose SinkRose 4
   -- there was no memory
-  no_memory : is_replay_words words ≡ true → Wrote before after [] → Answers words left before after SourceRose SinkRose 6
+  no_memory : is_replay_words words ≡ true → told' ≡ told → Wrote before after [] → Answers words left local told told' before after SourceRose LinkRose SinkRose 6

@@ -1,8 +1,10 @@
 //! Runs of the command line over streams in memory: what is printed, and the status, also where a stream fails.
 
+ghost use Rattle.std.specs.Prelude.{◌≡◌, IfOk, false};
+
 use crate::tool::run_tool;
 use lg_base::{Bytes, Items, Memory};
-use lg_outside::{MemorySink, MemorySource, Sink, Source};
+use lg_outside::{Link, MemoryLink, MemorySink, MemorySource, Sink, Source};
 use std::alloc::{AllocError, Global};
 use std::process::Abort;
 use std::test::Fail;
@@ -41,6 +43,13 @@ fn words(alloc: Global, word: &str) -> Result<Vec<String>, Memory> {
     Ok(words)
 }
 
+/// A link whose peer sends nothing, for runs that use none.
+fn no_link(alloc: Global) -> Result<MemoryLink, Memory>
+    ensures { IfOk result (λ link. link.finished ≡ false) }
+{
+    MemoryLink::new(alloc, Bytes::copy(alloc, &[])?, 0, true, calls(alloc, &[])?)
+}
+
 /// A source of the bytes, of which the listed reads fail.
 fn source(alloc: Global, bytes: &[u8], failing: &[u64]) -> Result<MemorySource, Memory> {
     Ok(MemorySource::new(Bytes::copy(alloc, bytes)?, calls(alloc, failing)?))
@@ -58,8 +67,9 @@ fn check_run(
     let mut input = source(alloc, input, &[])?;
     let mut out = MemorySink::new(alloc, ROOM, calls(alloc, &[])?)?;
     let words = words(alloc, word)?;
+    let mut link = no_link(alloc)?;
     assert_eq!(rt;
-        run_tool(alloc, words.as_slice(), &mut input, &mut out),
+        run_tool(alloc, words.as_slice(), &mut input, &mut out, &mut link),
         status
     );
     assert_eq!(rt; out.written(), printed);
@@ -102,8 +112,15 @@ fn an_input_that_fails_at_any_read_gives_4_and_nothing_is_written(
         let mut input = source(rt.alloc(), SCRIPT, &[call])?;
         let mut out = MemorySink::new(rt.alloc(), ROOM, calls(rt.alloc(), &[])?)?;
         let words = words(rt.alloc(), "replay")?;
+        let mut link = no_link(rt.alloc())?;
         assert_eq!(rt;
-            run_tool(rt.alloc(), words.as_slice(), &mut input, &mut out),
+            run_tool(
+                rt.alloc(),
+                words.as_slice(),
+                &mut input,
+                &mut out,
+                &mut link
+            ),
             4
         );
         assert_eq!(rt; input.faults(), 1);
@@ -123,7 +140,11 @@ fn check_sink(
 ) -> Result<(), Memory> {
     let mut input = source(alloc, SCRIPT, &[])?;
     let words = words(alloc, word)?;
-    assert_eq!(rt; run_tool(alloc, words.as_slice(), &mut input, &mut out), 5);
+    let mut link = no_link(alloc)?;
+    assert_eq!(rt;
+        run_tool(alloc, words.as_slice(), &mut input, &mut out, &mut link),
+        5
+    );
     assert!(rt; out.faults() > 0);
     assert!(rt; due.starts_with(out.written()));
     Ok(())
@@ -201,8 +222,15 @@ fn an_input_that_fails_at_any_read_lists_the_packets_before(rt: HostRuntime) -> 
         let mut input = source(rt.alloc(), bytes.as_slice(), &[call])?;
         let mut out = MemorySink::new(rt.alloc(), ROOM, calls(rt.alloc(), &[])?)?;
         let words = words(rt.alloc(), "frames")?;
+        let mut link = no_link(rt.alloc())?;
         assert_eq!(rt;
-            run_tool(rt.alloc(), words.as_slice(), &mut input, &mut out),
+            run_tool(
+                rt.alloc(),
+                words.as_slice(),
+                &mut input,
+                &mut out,
+                &mut link
+            ),
             4
         );
         assert_eq!(rt; out.written(), &LISTED[..front]);
@@ -217,8 +245,15 @@ fn an_output_that_fails_at_any_write_has_the_lines_before(rt: HostRuntime) -> Re
         let mut input = source(rt.alloc(), bytes.as_slice(), &[])?;
         let mut out = MemorySink::new(rt.alloc(), ROOM, calls(rt.alloc(), &[call])?)?;
         let words = words(rt.alloc(), "frames")?;
+        let mut link = no_link(rt.alloc())?;
         assert_eq!(rt;
-            run_tool(rt.alloc(), words.as_slice(), &mut input, &mut out),
+            run_tool(
+                rt.alloc(),
+                words.as_slice(),
+                &mut input,
+                &mut out,
+                &mut link
+            ),
             5
         );
         assert_eq!(rt; out.written(), &LISTED[..front]);

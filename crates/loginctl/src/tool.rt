@@ -1,16 +1,18 @@
 //! The command line of `loginctl`: what each form of its words does, and the status that it ends with.
 
 ghost use Rattle.lg_outside.specs.Faults.{Rose};
-ghost use Rattle.loginctl.specs.Tool.{Answers, IsDue, is_frames_words, is_replay_words, not_built, usage_text};
-ghost use Rattle.std.specs.Prelude.{◌≡◌, ◌≤◌, IfOk, map, string_bytes};
+ghost use Rattle.loginctl.specs.Tool.{Answers, AnswersOther, IsDue, is_frames_words, is_replay_words, not_built, usage_text};
+ghost use Rattle.std.specs.Prelude.{◌≡◌, ◌≤◌, IfOk, false, map, string_bytes};
 
 use crate::frames::print_frames;
 use crate::input::{ReadEnd, read_all};
+use crate::login_words::choose;
+use crate::logins::print_login;
 use crate::printing::print;
 use crate::replay::replayed;
 use crate::session_script::{LONGEST_SCRIPT, read_session};
 use lg_base::{Memory, Out};
-use lg_outside::{Sink, Source};
+use lg_outside::{Dial, Sink, Source};
 use std::alloc::Global;
 
 /// Whether the words are the one word `replay`.
@@ -73,29 +75,58 @@ fn not_built_line(alloc: Global) -> Result<Out, Memory>
     Ok(text)
 }
 
+/// Logs in where the words are those of a login, and else prints the usage.
+fn login_or_usage<W: Sink, L: Dial>(
+    alloc: Global,
+    words: &[String],
+    out: &mut W,
+    link: &mut L,
+) -> u8
+    requires { L.finished link.old ≡ false }
+    ensures answer { AnswersOther (map string_bytes words.now) (L.local link.old) (L.told link.old) (L.told link.new)
+        (Rose (L.fault_count link.old) (L.fault_count link.new)) (W.written out.old) (W.written out.new) (Rose (W.fault_count out.old) (W.fault_count out.new)) result }
+    ensures stays { L.finished link.new ≡ false }
+    ensures place { L.local link.new ≡ L.local link.old }
+    ensures link { L.fault_count link.old ≤ L.fault_count link.new }
+    ensures out { W.fault_count out.old ≤ W.fault_count out.new }
+{
+    match choose(alloc, words) {
+        Ok(Some(chosen)) => print_login(alloc, &chosen, out, link),
+        Ok(None) => print(out, usage(), 2),
+        Err(Memory) => 6,
+    }
+}
+
 /// Does what the words say, and answers the status of the program.
 ///
 /// For `replay` the input is a script of one native session, and the lines that are printed are those of the
 /// session: status 0. Any other input prints one line: 3. For `frames` the input is a stream of packets, each
 /// of which prints a line. A last line says how the stream ended: after a packet, 0, or at a place where it
-/// is no packet or too long, 3. Words of no form print the usage: 2. A source that fails gives 4, a sink that
+/// is no packet or too long, 3. For `login` the link is connected to the server at a socket, and the result of
+/// the client's login is printed: opened 0, refused 1, a link that fails 4, an answer of no form or none 7, and
+/// what the client won't send 8. Words of no form print the usage: 2. A source that fails gives 4, a sink that
 /// fails 5, and want of memory 6.
-pub fn run_tool<S: Source, W: Sink>(
+pub fn run_tool<S: Source, W: Sink, L: Dial>(
     alloc: Global,
     words: &[String],
     input: &mut S,
     out: &mut W,
+    link: &mut L,
 ) -> u8
-    ensures answer { Answers (map string_bytes words.now) (S.left input.old) (W.written out.old) (W.written out.new)
-        (Rose (S.fault_count input.old) (S.fault_count input.new)) (Rose (W.fault_count out.old) (W.fault_count out.new)) result }
+    requires { L.finished link.old ≡ false }
+    ensures answer { Answers (map string_bytes words.now) (S.left input.old) (L.local link.old) (L.told link.old) (L.told link.new) (W.written out.old) (W.written out.new)
+        (Rose (S.fault_count input.old) (S.fault_count input.new)) (Rose (L.fault_count link.old) (L.fault_count link.new)) (Rose (W.fault_count out.old) (W.fault_count out.new)) result }
+    ensures stays { L.finished link.new ≡ false }
+    ensures place { L.local link.new ≡ L.local link.old }
     ensures input { S.fault_count input.old ≤ S.fault_count input.new }
+    ensures link { L.fault_count link.old ≤ L.fault_count link.new }
     ensures out { W.fault_count out.old ≤ W.fault_count out.new }
 {
     if is_frames(words) {
         return print_frames(alloc, input, out);
     }
     if !is_replay(words) {
-        return print(out, usage(), 2);
+        return login_or_usage(alloc, words, out, link);
     }
     let text = match read_all(alloc, input, LONGEST_SCRIPT) {
         Ok(text) => text,

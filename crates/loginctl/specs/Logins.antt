@@ -1,0 +1,87 @@
+-- What `login` does and prints: the client's result in words, and a status.
+use Rattle.std.specs.Prelude.{◌≡◌, ℕ, Bool, List, [], ◌++◌, ◌∷◌, codes, decimal, Option, Some, None, unwrap_or, if◌then◌else◌}
+use Rattle.lg_outside.specs.Traffic.{Traffic}
+use Rattle.packet_frame.specs.declared.packets.FrameFault.{FrameFault}
+use Rattle.packet_frame.specs.declared.packets.FrameFault.TheVariants.{TooLarge, OutOfOrder, Memory as NoMemory}
+use Rattle.login_client.specs.Conversation.{conversation}
+use Rattle.login_client.specs.Exchange.{EndsAs}
+use Rattle.login_client.specs.declared.claims.Claim.{Claim}
+use Rattle.login_client.specs.declared.claims.Secrets.{Secrets}
+use Rattle.login_client.specs.declared.claims.ClientOptions.{ClientOptions}
+use Rattle.login_client.specs.declared.ends.LoginEnd.{LoginEnd}
+use Rattle.login_client.specs.declared.ends.LoginEnd.TheVariants.{Opened, Refused, Malformed, Framing, WontSend, PeerClosed, LinkFault, Memory}
+use Rattle.login_client.specs.declared.ends.Reason.{Reason}
+use Rattle.login_client.specs.declared.ends.Reason.TheVariants.{UnknownMethod, NoSecret, NotLocal, ClearNotPermitted}
+use Rattle.loginctl.specs.LoginWords.{Choice}
+use Rattle.loginctl.specs.Printing.{Printed, Wrote}
+
+-- the secrets of a choice; without a password the first one is empty
+abbrev pub secrets_of : Choice → Secrets
+secrets_of c = record { first = unwrap_or c.password []; second = c.factor2; third = c.factor3 }
+
+-- PROTOCOL_41, TRANSACTIONS, SECURE_CONNECTION, PLUGIN_AUTH, PLUGIN_AUTH_LENENC_CLIENT_DATA and
+-- MULTI_FACTOR_AUTHENTICATION, and CAN_HANDLE_EXPIRED_PASSWORDS where that is chosen
+abbrev pub flags_of : Bool → ℕ
+flags_of expired = if expired then 0x1068A200 else 0x1028A200
+
+abbrev pub options_of : Choice → ClientOptions
+options_of c = record { flags = flags_of c.expired; clear = c.clear }
+
+abbrev pub claim_of : Choice → Bool → Claim
+claim_of c local = record { user = unwrap_or c.user []; secrets = secrets_of c; options = options_of c; local = local }
+
+-- the place of a fault of packets
+abbrev pub place_of : FrameFault → ℕ
+place_of (TooLarge at) = at
+place_of (OutOfOrder at want got) = at
+place_of NoMemory = 0
+
+unfoldable pub reason_word : Reason → List ℕ
+reason_word UnknownMethod = codes "unknownmethod"
+reason_word NoSecret = codes "nosecret"
+reason_word NotLocal = codes "notlocal"
+reason_word ClearNotPermitted = codes "notpermitted"
+
+-- the words of a result
+unfoldable pub end_words : LoginEnd → List ℕ
+end_words Opened = codes "opened"
+end_words (Refused number) = codes "refused " ++ decimal number
+end_words (Malformed at) = codes "malformed " ++ decimal at
+end_words (Framing fault) = codes "framing " ++ decimal (place_of fault)
+end_words (WontSend reason) = codes "wontsend " ++ reason_word reason
+end_words PeerClosed = codes "closed"
+end_words LinkFault = codes "linkfault"
+end_words Memory = []
+
+abbrev pub login_line : LoginEnd → List ℕ
+login_line end = end_words end ++ 10 ∷ []
+
+abbrev pub login_status : LoginEnd → ℕ
+login_status Opened = 0
+login_status (Refused number) = 1
+login_status (Malformed at) = 7
+login_status (Framing fault) = 7
+login_status (WontSend reason) = 8
+login_status PeerClosed = 7
+login_status LinkFault = 4
+login_status Memory = 6
+
+-- how a login over a link ended, by what the link told before and after and by whether its count of faults rose
+pub data LogsIn (choice : Choice) (local : Bool) (before after : Option Traffic) (Rises : Type 0) : LoginEnd → Type 0 where
+  -- the link could not be connected
+  undialled : after ≡ before → Rises → LogsIn choice local before after Rises LinkFault
+  -- there was no memory for what the client needs
+  unmade : after ≡ before → LogsIn choice local before after Rises Memory
+  talked : (end : LoginEnd) → EndsAs (conversation (claim_of choice local)) 0 0 before after Rises end → LogsIn choice local before after Rises end
+
+abbrev pub IsTold : LoginEnd → Type 0
+IsTold Memory = ⊥
+IsTold _ = Unit {0}
+
+-- What `login` answers, by what the link told before and after, what was written before and after, and whether the
+-- counts of faults rose.
+pub data AnswersLogin (choice : Choice) (local : Bool) (before after : Option Traffic) (LinkRose : Type 0) (out out' : Option (List ℕ)) (SinkRose : Type 0) : ℕ → Type 0 where
+  told : (end : LoginEnd) (result : ℕ) → LogsIn choice local before after LinkRose end → IsTold end
+      → Printed out out' SinkRose (login_status end) (login_line end) result → AnswersLogin choice local before after LinkRose out out' SinkRose result
+  no_memory : (end : LoginEnd) → LogsIn choice local before after LinkRose end → Wrote out out' []
+      → AnswersLogin choice local before after LinkRose out out' SinkRose 6
