@@ -1,4 +1,5 @@
 pub mod Keeping
+pub mod Meaning
 pub mod Moves
 pub mod Packets
 pub mod Reaching

@@ -4,15 +4,29 @@
 ghost use Rattle.login_client.specs.Acting.{Acts};
 ghost use Rattle.login_client.specs.Conversation.{ClientTalk, conversation};
 ghost use Rattle.login_client.specs.Exchange.{EndsWithin, IsExchange, Stand};
+ghost use Rattle.login_client.specs.Hearing.{IsHeard};
 ghost use Rattle.login_client.specs.Secrets.{KeepsTo};
 ghost use Rattle.login_client.specs.Talk.{IsWaiting, Leads, Talk};
 ghost use Rattle.login_client.specs.Talked.{AreGot, AreWritten, Talked, result_in, said_by};
 ghost use Rattle.std.specs.Prelude.{◌≡◌, ◌∷◌, [], ◌++◌, ℕ, List, Option};
 
 use crate::claims::Claim;
-use crate::ends::ClientAct;
+use crate::ends::{ClientAct, LoginEnd};
 use crate::hearing::Heard;
 use packet_frame::Packet;
+
+/// A payload says one thing.
+pub fn payloads_have_one_meaning()
+    ensures { (payload : List ℕ) (heard other : Heard) →
+        IsHeard payload heard → IsHeard payload other → heard ≡ other }
+{}
+
+/// What a client has written, and its result, are determined by the payloads that it got.
+pub fn talks_are_determined()
+    ensures { (claim : Claim) (got written others : List (List ℕ)) (result other : Option LoginEnd) →
+        ClientTalk claim got written result → ClientTalk claim got others other →
+        (written ≡ others) × (result ≡ other) }
+{}
 
 /// What a client does at one packet more is what its talk comes to with that payload more.
 pub fn clients_follow_their_talk()
