@@ -1,11 +1,11 @@
 -- A secret is said in the clear only where it may be.
-use Rattle.std.proofs.Common.{◌≡◌, refl, sym, ap, ◌∙◌, subst, ℕ, List, [], ◌∷◌, Bool, true, false, Option, Some, None, if◌then◌else◌}
+use Rattle.std.proofs.Common.{◌≡◌, refl, subst, ℕ, List, Bool, true, false, Option, Some, None, if◌then◌else◌}
 use Rattle.auth_packets.specs.declared.exchange.Switch.{Switch}
 use Rattle.auth_packets.specs.declared.exchange.NextFactor.{NextFactor}
-use Rattle.login_client.specs.Conversation.{answered, asked, cached, clear, conversation, ended, factor, factors, full, further, greeted, nonced, opened_by, responded, switched}
+use Rattle.login_client.specs.Conversation.{answered, asked, cached, clear, conversation, ended, factor, factors, full, further, greeted, nonced, responded, switched}
 use Rattle.login_client.specs.Methods.{clear_text, first_method, method_of, nonce_of}
 use Rattle.login_client.specs.Secrets.{KeepsTo, MaySay, answer, response, second, third, full as says-full, switch as says-switch}
-use Rattle.login_client.specs.Talk.{Talk, Hears, Says, Over}
+use Rattle.login_client.specs.Talk.{Talk, Says, Over}
 use Rattle.login_client.specs.declared.claims.Claim.{Claim}
 use Rattle.login_client.specs.declared.ends.LoginEnd.TheVariants.{WontSend}
 use Rattle.login_client.specs.declared.ends.Reason.TheVariants.{ClearNotPermitted, NotLocal}

@@ -1,8 +1,8 @@
 -- A payload says one thing.
-use Rattle.std.proofs.Common.{◌≡◌, refl, sym, ap, ◌∙◌, subst, ℕ, ◌==◌, ◌<◌, ◌≤◌, ◌-◌, List, [], ◌∷◌, ◌++◌, length, take, Bool, true, false, ◌⊎◌, inl, inr, ⊎_elim, Option, arith, nat_lt, ltb-true, ltb-false, eqb-true}
+use Rattle.std.proofs.Common.{◌≡◌, refl, sym, ap, ◌∙◌, subst, ℕ, ◌<◌, ◌-◌, List, [], ◌∷◌, ◌++◌, length, Bool, true, false, ◌⊎◌, inl, inr, ⊎_elim, Option, arith, nat_lt, ltb-true, ltb-false, eqb-true}
 use Rattle.std.proofs.lemmas.Bool.{eqb-false}
 use Rattle.wire_form.specs.Fields.{mark}
-use Rattle.wire_form.specs.Payloads.{Begins, IsFaultPlace, SpellsOne}
+use Rattle.wire_form.specs.Payloads.{IsFaultPlace}
 use Rattle.wire_form.proofs.Payloads.{one_value as one}
 use Rattle.auth_packets.specs.Handshake.{greeting, opening}
 use Rattle.auth_packets.specs.Exchange.{switch, next_factor}

@@ -1,5 +1,5 @@
 -- What is read from a link and written to it, step by step.
-use Rattle.std.proofs.Common.{◌≡◌, refl, sym, ap, ◌∙◌, subst, ℕ, List, [], ◌++◌, length, take, drop, Option, Some, None, Result, Ok, Err, append_assoc, append-nil}
+use Rattle.std.proofs.Common.{◌≡◌, refl, sym, ap, ◌∙◌, subst, ℕ, List, [], ◌++◌, take, drop, Option, Some, None, Ok, Err, append_assoc, append-nil}
 use Rattle.std.proofs.lemmas.List.{take-append-drop}
 use Rattle.lg_outside.specs.Links.{Receives, Sends}
 use Rattle.lg_outside.specs.Traffic.{Traffic}

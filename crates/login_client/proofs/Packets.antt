@@ -1,11 +1,11 @@
 -- What is known of a packet that is being read.
-use Rattle.std.proofs.Common.{◌≡◌, ◌≢◌, refl, sym, ap, ◌∙◌, subst, ℕ, ◌+◌, ◌-◌, ◌<◌, ◌≤◌, List, [], ◌∷◌, ◌++◌, length, take, drop, arith, length-append, append_assoc, append-nil, ◌⊎◌, inl, inr, ⊎_elim, Option}
+use Rattle.std.proofs.Common.{◌≡◌, refl, sym, ap, ◌∙◌, subst, ℕ, ◌+◌, ◌-◌, ◌<◌, ◌≤◌, List, [], ◌∷◌, ◌++◌, length, arith, length-append, ◌⊎◌, inl, inr, ⊎_elim, Option}
 use Rattle.std.proofs.lemmas.List.{take_all}
 use Rattle.std.specs.List.{concat}
 use Rattle.packet_frame.specs.Framing.{Framing, front_of, with_bytes, due_bytes, missing_of, IsSound, IsWhole, IsReading, Takes, Refuses, TakesPacket}
 use Rattle.packet_frame.specs.Front.{Front, Whole, Part, Fault, front, IsFront}
-use Rattle.packet_frame.specs.Packets.{AllFull, full_size, header_text, id_after, pieces_text, IsBegun, IsCut, IsFault, IsPacket, IsUnfinished}
-use Rattle.packet_frame.specs.Streams.{Ending, Between, Cut, Faulty, IsEnding}
+use Rattle.packet_frame.specs.Packets.{AllFull, header_text, id_after, pieces_text, IsCut, IsFault, IsPacket, IsUnfinished}
+use Rattle.packet_frame.specs.Streams.{Ending, Between, Cut, IsEnding}
 use Rattle.packet_frame.specs.declared.packets.Packet.{Packet}
 use Rattle.packet_frame.specs.declared.packets.Want.{Want}
 use Rattle.packet_frame.specs.declared.packets.Want.TheVariants.{Exactly}
@@ -13,7 +13,7 @@ use Rattle.packet_frame.specs.declared.packets.FrameFault.{FrameFault}
 use Rattle.packet_frame.specs.declared.packets.FrameFault.TheVariants.{TooLarge, OutOfOrder, Memory}
 use Rattle.packet_frame.proofs.Fronts.{front-nothing}
 use Rattle.lg_outside.specs.Traffic.{Traffic}
-use Rattle.login_client.specs.Reading.{ReadsPacket, Stops, between, closed, end_at, failed, framing, longest_packet, no_memory}
+use Rattle.login_client.specs.Reading.{ReadsPacket, Stops, between, end_at, framing, longest_packet, no_memory}
 use Rattle.login_client.specs.declared.ends.LoginEnd.{LoginEnd}
 use Rattle.login_client.specs.declared.ends.LoginEnd.TheVariants.{Framing as ByFraming}
 use Rattle.login_client.specs.Exchange.{IsOpen, Moved, longest_payload}

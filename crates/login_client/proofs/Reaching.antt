@@ -1,9 +1,8 @@
 -- A login over its turns.
-use Rattle.std.proofs.Common.{◌≡◌, refl, sym, ap, ◌∙◌, subst, ℕ, zero, suc, ◌+◌, ◌*◌, ◌≤◌, ◌^◌, List, [], ◌++◌, length, take, Option, append_assoc, arith}
+use Rattle.std.proofs.Common.{◌≡◌, refl, sym, subst, ℕ, ◌+◌, ◌*◌, ◌≤◌, List, [], ◌++◌, length, take, Option, append_assoc, arith}
 use Rattle.std.proofs.Math.Seq.{take-append-add}
 use Rattle.lg_outside.specs.Traffic.{Traffic}
 use Rattle.packet_frame.specs.Framing.{Framing}
-use Rattle.packet_frame.specs.Packets.{IsPacket}
 use Rattle.packet_frame.specs.Streams.{Between}
 use Rattle.login_client.specs.Exchange.{EndsAs, EndsWithin, IsExchange, Moved, Stand, Waits, closed, decided, failed, framing, no_memory, waits}
 use Rattle.login_client.specs.Reading.{GoesOn, between, longest_packet}

@@ -1,5 +1,5 @@
 -- A response of the client can be written.
-use Rattle.std.proofs.Common.{◌≡◌, refl, ℕ, zero, suc, ◌+◌, ◌<◌, ◌==◌, List, [], ◌∷◌, length, get_or, Contains, Bool, true, false, ◌||◌, codes, arith, eq-eqb}
+use Rattle.std.proofs.Common.{◌≡◌, refl, ℕ, zero, suc, ◌<◌, ◌==◌, List, [], ◌∷◌, length, get_or, Contains, Bool, true, false, ◌||◌, codes, arith, eq-eqb}
 use Rattle.std.specs.Bool.{OnFalse}
 use Rattle.std.specs.List.{list_any}
 use Rattle.login_client.specs.Methods.{name_of, native_name, caching_name}

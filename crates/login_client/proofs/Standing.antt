@@ -1,8 +1,8 @@
 -- Steps of a client.
-use Rattle.std.proofs.Common.{◌≡◌, refl, sym, ap, ◌∙◌, subst, ℕ, List, Option, Some, None}
+use Rattle.std.proofs.Common.{◌≡◌, refl, sym, subst, ℕ, List, Option, Some, None}
 use Rattle.packet_frame.specs.declared.packets.Packet.{Packet}
 use Rattle.login_client.specs.Acting.{Acts, Does}
-use Rattle.login_client.specs.Phases.{Stands, StandsBy, StepsAt, act_of, done_if, end_of, talk_at}
+use Rattle.login_client.specs.Phases.{StandsBy, StepsAt, act_of, done_if, end_of, talk_at}
 use Rattle.login_client.specs.declared.claims.Claim.{Claim}
 use Rattle.login_client.specs.declared.phases.Phase.{Phase}
 use Rattle.login_client.specs.declared.phases.Phase.TheVariants.{Connected, Responded, Answered, Factors, Ended}

@@ -1,11 +1,10 @@
 -- What a talk comes to, step by step.
-use Rattle.std.proofs.Common.{◌≡◌, refl, sym, ap, ◌∙◌, subst, ℕ, List, [], ◌∷◌, ◌++◌, length, Option, Some, None}
+use Rattle.std.proofs.Common.{refl, sym, ap, subst, ℕ, List, [], ◌∷◌, ◌++◌, Option, Some, None}
 use Rattle.packet_frame.specs.declared.packets.Packet.{Packet}
 use Rattle.login_client.specs.Acting.{Acts, Does}
-use Rattle.login_client.specs.Exchange.{IsExchange, Stand, Waits, Ends, hears, over, says, waits}
-use Rattle.login_client.specs.Hearing.{IsHeard}
-use Rattle.login_client.specs.Talk.{Talk, Hears, Says, Over, IsWaiting, Leads, result_of, hearing}
-use Rattle.login_client.specs.Talked.{AreGot, AreWritten, Talked, result_in, said_by}
+use Rattle.login_client.specs.Exchange.{IsExchange, Stand, hears, over, says, waits}
+use Rattle.login_client.specs.Talk.{Talk, Hears, Says, Over, IsWaiting, Leads}
+use Rattle.login_client.specs.Talked.{Talked, said_by}
 use Rattle.login_client.specs.declared.ends.ClientAct.{ClientAct}
 use Rattle.login_client.specs.declared.ends.ClientAct.TheVariants.{Send, Done}
 use Rattle.login_client.specs.declared.hearing.Heard.{Heard}

@@ -1,23 +1,20 @@
 -- What a turn of a login makes of the talk.
-use Rattle.std.proofs.Common.{◌≡◌, refl, sym, ap, ◌∙◌, subst, ℕ, zero, suc, ◌+◌, ◌≤◌, List, [], ◌∷◌, ◌++◌, length, take, Option, Some, None, append-nil, append_assoc, arith}
+use Rattle.std.proofs.Common.{◌≡◌, refl, sym, ap, ◌∙◌, subst, ℕ, zero, suc, ◌+◌, List, [], ◌++◌, length, take, Option, Some, None, append-nil}
 use Rattle.lg_outside.specs.Traffic.{Traffic}
 use Rattle.packet_frame.specs.Framing.{Framing, after_expect, front_of, held_length, unfinished_length}
 use Rattle.packet_frame.specs.Front.{Front, Part}
 use Rattle.packet_frame.specs.Packets.{IsPacket, id_after}
 use Rattle.packet_frame.specs.Streams.{Between, Faulty}
 use Rattle.packet_frame.specs.declared.packets.Packet.{Packet}
-use Rattle.packet_frame.specs.declared.packets.Want.{Want}
 use Rattle.packet_frame.specs.declared.packets.Want.TheVariants.{Exactly}
 use Rattle.packet_frame.proofs.Fronts.{front-nothing}
 use Rattle.login_client.specs.Acting.{Acts, Does}
 use Rattle.login_client.specs.Exchange.{EndsAs, EndsWithin, IsDecided, IsExchange, Moved, Stand, Ends, Waits, closed as ends-closed, decided, failed as ends-failed, framing as ends-framing, hears, longest_payload, no_memory as ends-no_memory, over, says, waits}
-use Rattle.login_client.specs.Hearing.{IsHeard}
 use Rattle.login_client.specs.Reading.{Fails, GoesOn, ReadsPacket, Stops, Writes, between, closed, cut, failed, framing, no_memory, unwritten}
 use Rattle.login_client.specs.Talk.{Talk, Hears, Says, Over, IsWaiting}
-use Rattle.login_client.specs.declared.ends.ClientAct.{ClientAct}
 use Rattle.login_client.specs.declared.ends.ClientAct.TheVariants.{Send, Done}
 use Rattle.login_client.specs.declared.ends.LoginEnd.{LoginEnd}
-use Rattle.login_client.specs.declared.ends.LoginEnd.TheVariants.{LinkFault, Memory}
+use Rattle.login_client.specs.declared.ends.LoginEnd.TheVariants.{Memory}
 use Rattle.login_client.specs.declared.hearing.Heard.{Heard}
 use Rattle.login_client.proofs.Moves.{moved-more}
 

@@ -1,6 +1,6 @@
 -- A login hears at most six payloads, and ends by itself.
-use Rattle.std.proofs.Common.{◌≡◌, ℕ, zero, suc, List, [], ◌∷◌, Bool, true, false, Option, Some, None, if◌then◌else◌}
-use Rattle.login_client.specs.Conversation.{answered, asked, cached, clear, conversation, ended, factor, factors, full, further, greeted, nonced, opened_by, responded, switched}
+use Rattle.std.proofs.Common.{ℕ, zero, suc, List, Bool, true, false, Option, Some, None, if◌then◌else◌}
+use Rattle.login_client.specs.Conversation.{answered, asked, cached, clear, conversation, ended, factor, factors, full, further, greeted, nonced, responded, switched}
 use Rattle.login_client.specs.Exchange.{EndsWithin}
 use Rattle.login_client.specs.Methods.{clear_text, first_method, method_of, nonce_of}
 use Rattle.login_client.specs.Talk.{Talk, Hears, Says, Over}

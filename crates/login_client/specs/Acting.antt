@@ -1,5 +1,5 @@
 -- What a client does at a packet.
-use Rattle.std.specs.Prelude.{◌≡◌, ℕ, List, [], ◌∷◌, Option, Some, None}
+use Rattle.std.specs.Prelude.{◌≡◌, ℕ, Option, Some, None}
 use Rattle.packet_frame.specs.Packets.{id_after}
 use Rattle.packet_frame.specs.declared.packets.Packet.{Packet}
 use Rattle.login_client.specs.Hearing.{IsHeard}

@@ -1,6 +1,6 @@
 -- A talk over a connection: the payloads stand in packets, whose sequence ids rise by one over both directions
 -- ("MySQL Packets" of the MySQL client/server protocol documentation).
-use Rattle.std.specs.Prelude.{◌≡◌, ℕ, zero, suc, ◌+◌, List, [], ◌∷◌, ◌++◌, length, take, Option, Some, None}
+use Rattle.std.specs.Prelude.{◌≡◌, ℕ, zero, suc, ◌+◌, List, [], ◌++◌, length, take, Option, Some, None}
 use Rattle.lg_outside.specs.Traffic.{Traffic}
 use Rattle.packet_frame.specs.Packets.{id_after, IsPacket}
 use Rattle.packet_frame.specs.Streams.{Ending, Between, Cut, Faulty, IsEnding}

@@ -1,5 +1,5 @@
 -- When a client says a secret in the clear.
-use Rattle.std.specs.Prelude.{◌≡◌, ℕ, List, true, Option, Some}
+use Rattle.std.specs.Prelude.{◌≡◌, ℕ, List, true, Some}
 use Rattle.auth_packets.specs.Handshake.{response_text}
 use Rattle.auth_packets.specs.declared.exchange.Switch.{Switch}
 use Rattle.auth_packets.specs.declared.exchange.NextFactor.{NextFactor}

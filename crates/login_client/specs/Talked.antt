@@ -1,5 +1,5 @@
 -- What an exchange over packets and the acts of a client come to: the payloads got and written, and the result.
-use Rattle.std.specs.Prelude.{◌≡◌, ℕ, ◌+◌, List, [], ◌∷◌, ◌++◌, length, Option, Some, None}
+use Rattle.std.specs.Prelude.{◌≡◌, ℕ, List, [], ◌∷◌, ◌++◌, length, Option, Some, None}
 use Rattle.packet_frame.specs.Packets.{IsPacket}
 use Rattle.packet_frame.specs.Streams.{IsEnding}
 use Rattle.packet_frame.specs.declared.packets.Want.TheVariants.{Exactly}

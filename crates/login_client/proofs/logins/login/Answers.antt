@@ -1,4 +1,4 @@
-use Rattle.std.proofs.Common.{◌≡◌, ◌+◌, ◌-◌, refl, sym, ap, ◌∙◌, Bool, arith}
+use Rattle.std.proofs.Common.{◌≡◌, ◌+◌, ◌-◌, refl, ap, ◌∙◌, Bool, arith}
 use Rattle.login_client.specs.Clients.{talk_of}
 use Rattle.login_client.specs.Conversation.{conversation}
 use Rattle.login_client.specs.declared.claims.Claim.{Claim}

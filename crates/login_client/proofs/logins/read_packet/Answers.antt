@@ -1,10 +1,10 @@
-use Rattle.std.proofs.Common.{◌≡◌, ◌<◌, ◌≤◌, refl, sym, ap, ◌∙◌, subst, ℕ, List, [], ◌++◌, length, take, drop, arith, append-nil, length-append}
+use Rattle.std.proofs.Common.{◌≡◌, ◌≤◌, refl, sym, ap, ◌∙◌, subst, ℕ, List, [], ◌++◌, length, take, drop, arith, append-nil, length-append}
 use Rattle.login_client.specs.Exchange.{Moved}
 use Rattle.packet_frame.specs.Framing.{Framing, front_of, missing_of}
 use Rattle.std.proofs.lemmas.List.{length-drop, length-take, take-append-le}
 use Rattle.login_client.specs.Reading.{closed, failed}
 use Rattle.login_client.proofs.Moves.{moved-more, moved-none, received, received-failed, received-none}
-use Rattle.login_client.proofs.Packets.{IsPartRead, part-ends, part-grown, part-none, part-packet, part-short, part-taken, stops-at}
+use Rattle.login_client.proofs.Packets.{IsPartRead, part-ends, part-grown, part-none, part-packet, part-taken, stops-at}
 use Rattle.login_client.proofs.logins.read_packet.Goals as goal
 
 pub reads-init : goal.reads-init

@@ -1,5 +1,5 @@
 -- What was read is held, and is less than a packet.
-use Rattle.std.proofs.Common.{◌≡◌, ℕ, ◌-◌, ◌≤◌, [], length, false}
+use Rattle.std.proofs.Common.{◌≡◌, ◌-◌, ◌≤◌, [], length, false}
 use Rattle.login_client.specs.Exchange.{Moved}
 use Rattle.login_client.proofs.Packets.{IsPartRead}
 use Rattle.login_client.proofs.logins.read_packet.Given as goal

@@ -1,4 +1,4 @@
-use Rattle.std.proofs.Common.{◌≡◌, sym, ap, ◌∙◌, subst, List, ℕ, [], ◌++◌, take}
+use Rattle.std.proofs.Common.{◌≡◌, ap, ◌∙◌, subst, List, ℕ, [], ◌++◌, take}
 use Rattle.login_client.specs.Exchange.{Moved}
 use Rattle.login_client.specs.Reading.{cut, unwritten}
 use Rattle.login_client.proofs.Moves.{moved-none, sent-part}

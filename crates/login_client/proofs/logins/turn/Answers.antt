@@ -1,10 +1,9 @@
-use Rattle.std.proofs.Common.{◌≡◌, sym, ap, ◌∙◌, subst, ℕ, List, Option, Some, None, arith}
+use Rattle.std.proofs.Common.{ap, ◌∙◌, subst, ℕ, List, Option, Some, arith}
 use Rattle.lg_outside.specs.Faults.{Rose}
 use Rattle.login_client.specs.Acting.{Acts}
 use Rattle.login_client.specs.Clients.{talk_of}
 use Rattle.login_client.specs.Reading.{Fails, Writes}
 use Rattle.login_client.specs.declared.ends.ClientAct.{ClientAct}
-use Rattle.login_client.specs.declared.ends.ClientAct.TheVariants.{Send, Done}
 use Rattle.login_client.proofs.Turns.{heard-done, heard-fails, heard-nothing, heard-says, heard-waits, held-between, stop-ends}
 use Rattle.login_client.proofs.logins.turn.Goals as goal
 

@@ -1,4 +1,4 @@
-use Rattle.std.proofs.Common.{◌≡◌, List, ℕ, Contains, Bool, true, false, sym, ap, ◌∙◌, subst}
+use Rattle.std.proofs.Common.{List, ℕ, Contains, sym, ◌∙◌, subst}
 use Rattle.login_client.proofs.Responses.{name_whole, short_enough}
 use Rattle.login_client.proofs.claims.Claim.say_response.Goals as goal
 
