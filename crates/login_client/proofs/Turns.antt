@@ -12,6 +12,7 @@ use Rattle.login_client.specs.Acting.{Acts, Does}
 use Rattle.login_client.specs.Exchange.{EndsAs, EndsWithin, IsDecided, IsExchange, Moved, Stand, Ends, Waits, closed as ends-closed, decided, failed as ends-failed, framing as ends-framing, hears, longest_payload, no_memory as ends-no_memory, over, says, waits}
 use Rattle.login_client.specs.Reading.{Fails, GoesOn, ReadsPacket, Stops, Writes, between, closed, cut, failed, framing, no_memory, unwritten}
 use Rattle.login_client.specs.Talk.{Talk, Hears, Says, Over, IsWaiting}
+use Rattle.login_client.specs.declared.ends.ClientAct.{ClientAct}
 use Rattle.login_client.specs.declared.ends.ClientAct.TheVariants.{Send, Done}
 use Rattle.login_client.specs.declared.ends.LoginEnd.{LoginEnd}
 use Rattle.login_client.specs.declared.ends.LoginEnd.TheVariants.{Memory}
@@ -174,3 +175,25 @@ heard-fails n (Over e) id place before middle after packet frames first payload 
 -- between packets nothing is held
 pub held-between : (frames : Framing) (id place : ℕ) → frames ≡ between id place → held_length frames ≡ 0
 held-between frames id place is = ap (λ (v : Framing). held_length v) is ∙ ap (λ (f : Front). unfinished_length f 0) (front-nothing longest_payload (Exactly id) place)
+
+does-within : (n : ℕ) (talk : Talk) (last : ℕ) (act : Option ClientAct) (next : Talk) → EndsWithin n talk → Does talk last act next → EndsWithin n next
+does-within n (Hears k) last None next h d = subst (λ (t : Talk). EndsWithin n t) (sym d) h
+does-within n (Hears k) last (Some act) next h d = absurd d
+does-within n (Says said k) last None next h d = absurd d
+does-within n (Says said k) last (Some (Send first payload)) next h d = subst (λ (t : Talk). EndsWithin n t) (sym d.2) (said-within n said k h)
+does-within n (Says said k) last (Some (Done end)) next h d = absurd d
+does-within n (Over e) last None next h d = absurd d
+does-within n (Over e) last (Some (Send first payload)) next h d = absurd d
+does-within n (Over e) last (Some (Done end)) next h d = subst (λ (t : Talk). EndsWithin n t) (sym d.1) h
+
+-- a packet less is left to a client that heard one
+pub acts-within : (n : ℕ) (talk : Talk) (packet : Packet) (act : Option ClientAct) (next : Talk) → IsWaiting talk → EndsWithin (suc n) talk → Acts talk packet act next → EndsWithin n next
+acts-within n (Hears k) packet act next w h acts = does-within n (k acts.heard) packet.last act next (h acts.heard) acts.does
+acts-within n (Says said k) packet act next w h acts = absurd w
+acts-within n (Over end) packet act next w h acts = absurd w
+
+-- a client is done by what its talk decides
+pub acts-decided : (n : ℕ) (talk : Talk) (packet : Packet) (end : LoginEnd) (next : Talk) → IsWaiting talk → EndsWithin (suc n) talk → Acts talk packet (Some (Done end)) next → IsDecided end
+acts-decided n (Hears k) packet end next w h acts = done-decided n (k acts.heard) packet.last end next (h acts.heard) acts.does
+acts-decided n (Says said k) packet end next w h acts = absurd w
+acts-decided n (Over e) packet end next w h acts = absurd w

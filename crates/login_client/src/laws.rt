@@ -3,12 +3,13 @@
 
 ghost use Rattle.login_client.specs.Acting.{Acts};
 ghost use Rattle.login_client.specs.Conversation.{ClientTalk, conversation};
-ghost use Rattle.login_client.specs.Exchange.{EndsWithin, IsExchange, Stand};
+ghost use Rattle.login_client.specs.Exchange.{EndsWithin, IsDecided, IsExchange, Stand};
 ghost use Rattle.login_client.specs.Hearing.{IsHeard};
+ghost use Rattle.login_client.specs.declared.ends.ClientAct.TheVariants.{Done};
 ghost use Rattle.login_client.specs.Secrets.{KeepsTo};
 ghost use Rattle.login_client.specs.Talk.{IsWaiting, Leads, Talk};
 ghost use Rattle.login_client.specs.Talked.{AreGot, AreWritten, Talked, result_in, said_by};
-ghost use Rattle.std.specs.Prelude.{◌≡◌, ◌∷◌, [], ◌++◌, ℕ, List, Option};
+ghost use Rattle.std.specs.Prelude.{◌≡◌, ◌∷◌, [], ◌++◌, ℕ, suc, List, Option, Some};
 
 use crate::claims::Claim;
 use crate::ends::{ClientAct, LoginEnd};
@@ -33,6 +34,15 @@ pub fn clients_follow_their_talk()
     ensures { (start : Talk) (got written : List (List ℕ)) (now : Talk) (packet : Packet) (act : Option ClientAct) (next : Talk) →
         Leads start got written now → IsWaiting now → Acts now packet act next →
         Leads start (got ++ packet.payload ∷ []) (written ++ said_by act) next }
+{}
+
+/// A client comes nearer to its end with each packet, and is done by what its talk decides: `Opened`, `Refused`,
+/// `Malformed` or `WontSend`.
+pub fn clients_end()
+    ensures fewer { (n : ℕ) (talk : Talk) (packet : Packet) (act : Option ClientAct) (next : Talk) →
+        IsWaiting talk → EndsWithin (suc n) talk → Acts talk packet act next → EndsWithin n next }
+    ensures decided { (n : ℕ) (talk : Talk) (packet : Packet) (end : LoginEnd) (next : Talk) →
+        IsWaiting talk → EndsWithin (suc n) talk → Acts talk packet (Some (Done end)) next → IsDecided end }
 {}
 
 /// An exchange over packets is the talk over the payloads in them.
