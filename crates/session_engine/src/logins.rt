@@ -213,13 +213,7 @@ fn without_last_zero(text: &[u8]) -> &[u8]
     ensures { result.now ≡ without_zero text.now }
 {
     match text.split_last() {
-        Some((last, front)) => {
-            if *last == 0 {
-                front
-            } else {
-                text
-            }
-        }
+        Some((last, front)) => { if *last == 0 { front } else { text } }
         None => text,
     }
 }
