@@ -1,9 +1,8 @@
 -- What answers the question that a session asked, answers the session.
-use Rattle.std.proofs.Common.{◌≡◌, refl, ℕ, Bool, true, false, List}
+use Rattle.std.proofs.Common.{refl, true, false}
 use Rattle.session_talk.specs.Laws.{AsksAreAnswered, WhatFitsIsAsked}
-use Rattle.session_talk.specs.Talk.{Talk, Says, Hears, Draws, Looks, Checks, Settles, SettlesLocked, Over}
-use Rattle.session_talk.specs.Turns.{Answers, IsAsked, IsBegun, asked, is_answer, question}
-use Rattle.session_talk.specs.declared.inputs.Input.{Input}
+use Rattle.session_talk.specs.Talk.{Says, Hears, Draws, Looks, Checks, Settles, SettlesLocked, Over}
+use Rattle.session_talk.specs.Turns.{IsAsked, is_answer, question}
 use Rattle.session_talk.specs.declared.inputs.Input.TheVariants as input
 
 pub asks_are_answered : AsksAreAnswered

@@ -1,5 +1,5 @@
 -- A session asks at most seven questions between two packets.
-use Rattle.std.proofs.Common.{◌≡◌, refl, ℕ, zero, suc, Bool, true, false, List, [], ◌∷◌, Option, Some, None, Result, Ok, Err}
+use Rattle.std.proofs.Common.{ℕ, zero, suc, Bool, true, false, List, Option, Some, None, Result, Ok, Err}
 use Rattle.lg_base.specs.declared.errors.Code.{Code}
 use Rattle.factor_chain.specs.Checking.{known_fits_of}
 use Rattle.factor_chain.specs.declared.credentials.Look.{Look}
@@ -7,7 +7,6 @@ use Rattle.factor_chain.specs.declared.credentials.Method.{Method}
 use Rattle.factor_chain.specs.declared.credentials.Method.TheVariants.{Native, CachingSha2}
 use Rattle.factor_chain.specs.declared.evidence_list.Evidence.{Evidence}
 use Rattle.factor_chain.specs.declared.evidence_list.Evidence.TheVariants as evidence
-use Rattle.account_history.specs.declared.entries.Reply.{Reply}
 use Rattle.wire_form.specs.Payloads.{start}
 use Rattle.auth_packets.specs.Commands.{command}
 use Rattle.auth_packets.specs.Handshake.{response}
@@ -16,7 +15,7 @@ use Rattle.auth_packets.specs.declared.commands.Command.TheVariants.{Quit, Query
 use Rattle.auth_packets.specs.declared.handshake.Response.{Response}
 use Rattle.session_talk.specs.Bounds.{Within}
 use Rattle.session_talk.specs.Laws.{SessionsAreBounded}
-use Rattle.session_talk.specs.Logins.{all_commands, answer, answered, answering, attempt_of, caching, claim_of, claimed, clear_evidence, commanded, commands, is_blank, is_named, method_of, next_command, outcome, proved, proving, refusal_of, responded, session, without_zero}
+use Rattle.session_talk.specs.Logins.{all_commands, answered, answering, attempt_of, caching, claim_of, claimed, clear_evidence, commanded, commands, is_blank, is_named, method_of, next_command, proved, proving, refusal_of, responded, without_zero}
 use Rattle.session_talk.specs.Talk.{Talk}
 use Rattle.session_talk.specs.declared.attempts.Attempting.{Attempting}
 use Rattle.session_talk.specs.declared.attempts.Claim.{Claim}

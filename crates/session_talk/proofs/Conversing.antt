@@ -1,6 +1,5 @@
 -- Each conversation is the beginning of a session.
-use Rattle.std.proofs.Common.{◌≡◌, ◌≢◌, refl, ap, sym, ◌∙◌, subst, ◌⊎◌, inl, inr, ℕ, zero, suc, Bool, true, false, List, [], ◌∷◌, ◌++◌, Option, Some, None, Result, Ok, Err}
-use Rattle.std.specs.Str.{bytes_eq}
+use Rattle.std.proofs.Common.{◌≡◌, ◌≢◌, refl, ap, sym, subst, inl, inr, ℕ, zero, suc, Bool, true, false, List, [], ◌∷◌, ◌++◌, Option, Some, None, Result, Ok}
 use Rattle.std.proofs.lemmas.Slice.Eq.{bytes_eq-Decides}
 use Rattle.lg_base.specs.declared.errors.Code.{Code}
 use Rattle.lg_base.specs.Errors.{number_of}
@@ -17,8 +16,8 @@ use Rattle.auth_packets.proofs.HandshakeLaws.{response-lawful}
 use Rattle.session_talk.specs.declared.attempts.Attempting.{Attempting}
 use Rattle.session_talk.specs.declared.attempts.Claim.{Claim}
 use Rattle.session_talk.specs.declared.ends.SessionEnd.TheVariants as end
-use Rattle.session_talk.specs.Conversation.{Conversation, Goes, Move, Drew, Sent, Got, Looked, Stale, Settled, Exchange, Named, Switched, IsExchange, exchange_moves, nonce_in, answer_in, Proof, Blank, Answered, Known, Clear, IsBlank, IsProof, proof_moves, evidence_in, Settling, AtOnce, Once, Twice, settling_moves, last_payload, greeting_moves}
-use Rattle.session_talk.specs.Logins.{all_commands, answer, answered, answering, attempt_of, caching, claim_of, claimed, commands, is_blank, is_named, looking, method_of, outcome, proved, proving, refusal_of, responded, session}
+use Rattle.session_talk.specs.Conversation.{Conversation, Goes, Move, Sent, Exchange, Named, Switched, IsExchange, exchange_moves, nonce_in, answer_in, Proof, Blank, Answered, Known, Clear, IsBlank, IsProof, proof_moves, evidence_in, Settling, AtOnce, Once, Twice, settling_moves, last_payload}
+use Rattle.session_talk.specs.Logins.{all_commands, answer, answered, answering, attempt_of, caching, claim_of, claimed, commands, is_blank, is_named, method_of, proved, proving, refusal_of, responded, session}
 use Rattle.session_talk.specs.Talk.{Talk, Over}
 use Rattle.session_talk.specs.Texts.{method_name}
 

@@ -1,9 +1,8 @@
 -- What is owed goes on, for packets and over bytes.
-use Rattle.std.proofs.Common.{◌≡◌, refl, ap, sym, ◌∙◌, ℕ, List, [], ◌∷◌, ◌++◌}
-use Rattle.packet_frame.specs.declared.packets.Packet.{Packet}
+use Rattle.std.proofs.Common.{refl, ap, ◌∷◌}
 use Rattle.session_talk.specs.Laws.{OwedGoesOn, StaleChangesNothing}
-use Rattle.session_talk.specs.Owed.{Own, Drew, Saw, Late, Did, after_all_sent, after_sent, owed}
-use Rattle.session_talk.specs.Talk.{Talk, Says, Hears, Draws, Looks, Checks, Settles, SettlesLocked, Over}
+use Rattle.session_talk.specs.Owed.{Drew, Saw, Late, Did, after_sent, owed}
+use Rattle.session_talk.specs.Talk.{Says, Hears, Draws, Looks, Checks, Settles, SettlesLocked}
 use Rattle.session_talk.specs.Turns.{id_behind}
 use Rattle.packet_frame.specs.Packets.{id_after}
 

@@ -1,6 +1,6 @@
 -- What is owed over bytes goes on, however they are cut.
-use Rattle.std.proofs.Common.{◌≡◌, refl, ap, sym, ◌∙◌, subst, ℕ, ◌+◌, ◌-◌, ◌≤◌, List, [], ◌∷◌, ◌++◌, length, length-append, arith}
-use Rattle.packet_frame.specs.Front.{Front, Whole, Part, Fault, StaysWith, front}
+use Rattle.std.proofs.Common.{◌≡◌, refl, ap, ◌∙◌, ℕ, ◌+◌, ◌-◌, List, ◌∷◌, ◌++◌, length, length-append, arith}
+use Rattle.packet_frame.specs.Front.{Front, Whole, Part, Fault, StaysWith}
 use Rattle.packet_frame.specs.Packets.{id_after}
 use Rattle.packet_frame.specs.declared.packets.FrameFault.{FrameFault}
 use Rattle.packet_frame.specs.declared.packets.FrameFault.TheVariants.{TooLarge, OutOfOrder, Memory as NoMemory}
@@ -8,7 +8,7 @@ use Rattle.packet_frame.specs.declared.packets.Want.TheVariants.{Exactly}
 use Rattle.packet_frame.proofs.Longer.{front-stays}
 use Rattle.session_talk.specs.Laws.{WiredGoesOn, with_more}
 use Rattle.session_talk.specs.Owed.{Own, Drew, Saw, Late, Did}
-use Rattle.session_talk.specs.Talk.{Talk, Says, Hears, Draws, Looks, Checks, Settles, SettlesLocked, Over}
+use Rattle.session_talk.specs.Talk.{Says, Hears, Draws, Looks, Checks, Settles, SettlesLocked}
 use Rattle.session_talk.specs.Turns.{faulted, id_behind, wanted}
 use Rattle.session_talk.specs.Wired.{Stream, Wired, after_all_sent, after_sent, behind_of, by_front, front_of, most_payload, said_from, stops, wired}
 

@@ -1,5 +1,5 @@
 -- What reading a payload answers is what the form's reader on lists finds.
-use Rattle.std.proofs.Common.{◌≡◌, ℕ, ◌<◌, ◌≤◌, List, length, Option, Some, None, IfSome, Result, Ok, Err, refl, sym, ap, ◌∙◌, subst, arith}
+use Rattle.std.proofs.Common.{◌≡◌, ℕ, ◌<◌, List, Option, Some, None, IfSome, Result, Ok, Err, refl, ap, arith}
 use Rattle.wire_form.specs.Forms.{Form}
 use Rattle.wire_form.specs.Payloads.{IsFaultPlace, start, Gives, IsReadAs}
 use Rattle.wire_form.proofs.Laws.{IsForm}

@@ -1,12 +1,10 @@
 -- What a session says over a list of inputs is what is owed for them.
-use Rattle.std.proofs.Common.{◌≡◌, refl, ap, sym, ◌∙◌, ℕ, Bool, true, false, List, [], ◌∷◌, ◌++◌, append_assoc}
-use Rattle.packet_frame.specs.Packets.{id_after}
+use Rattle.std.proofs.Common.{◌≡◌, refl, ap, sym, ◌∙◌, ℕ, true, false, List, [], ◌∷◌, ◌++◌, append_assoc}
 use Rattle.packet_frame.specs.declared.packets.Packet.{Packet}
-use Rattle.session_talk.specs.declared.ends.SessionEnd.{SessionEnd}
 use Rattle.session_talk.specs.declared.inputs.Input.{Input}
 use Rattle.session_talk.specs.declared.inputs.Input.TheVariants as input
 use Rattle.session_talk.specs.Laws.{RunsAreOwed}
-use Rattle.session_talk.specs.Owed.{Own, Drew, Saw, Late, Did, Owed, Sent, after_all_sent, after_sent, owed}
+use Rattle.session_talk.specs.Owed.{Own, Owed, Sent, after_all_sent, after_sent, owed}
 use Rattle.session_talk.specs.Runs.{AllAnswer, Standing, owns_in, packets_in, sent_from, sent_on, spoken, stands_after, stands_on}
 use Rattle.session_talk.specs.Talk.{Talk, Says, Hears, Draws, Looks, Checks, Settles, SettlesLocked, Over}
 use Rattle.session_talk.specs.Turns.{first_id, heard, id_behind, id_behind_all, is_answer, rest, said}

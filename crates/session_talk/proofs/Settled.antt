@@ -1,5 +1,5 @@
 -- Each beginning of a session that ends in a settling, and in what is sent because of it, is a conversation.
-use Rattle.std.proofs.Common.{◌≡◌, ◌≢◌, refl, ap, sym, ◌∙◌, subst, ◌⊎◌, inl, inr, ℕ, zero, suc, Bool, true, false, List, [], ◌∷◌, ◌++◌, Option, Some, None, Result, Ok, Err}
+use Rattle.std.proofs.Common.{◌≡◌, ◌≢◌, refl, ap, sym, ◌∙◌, subst, inl, inr, ℕ, zero, suc, Bool, true, false, List, [], ◌∷◌, ◌++◌, Option, Some, None, Result, Ok, Err}
 use Rattle.std.proofs.lemmas.Slice.Eq.{bytes_eq-Decides}
 use Rattle.lg_base.specs.declared.errors.Code.{Code}
 use Rattle.factor_chain.specs.Checking.{known_fits_of}
@@ -18,10 +18,9 @@ use Rattle.auth_packets.specs.declared.commands.Command.TheVariants.{Quit, Query
 use Rattle.auth_packets.specs.declared.handshake.Response.{Response}
 use Rattle.auth_packets.proofs.HandshakeLaws.{response-lawful}
 use Rattle.session_talk.specs.declared.attempts.Attempting.{Attempting}
-use Rattle.session_talk.specs.declared.attempts.Claim.{Claim}
 use Rattle.session_talk.specs.declared.ends.SessionEnd.{SessionEnd}
 use Rattle.session_talk.specs.Conversation.{Conversation, Goes, Move, Drew, Sent, Got, Looked, Stale, Settled, Exchange, Named, Switched, IsExchange, exchange_moves, nonce_in, answer_in, Proof, Blank, Answered, Known, Clear, IsBlank, IsProof, proof_moves, evidence_in, Settling, AtOnce, Once, Twice, last_payload, greeting_moves}
-use Rattle.session_talk.specs.Logins.{all_commands, answer, answered, answering, attempt_of, caching, claim_of, claimed, commanded, commands, greeting, is_blank, is_named, method_of, next_command, outcome, proved, proving, refusal_of, responded, session}
+use Rattle.session_talk.specs.Logins.{all_commands, answered, answering, attempt_of, caching, claim_of, claimed, commanded, commands, is_blank, is_named, method_of, next_command, proved, proving, refusal_of, responded, session}
 use Rattle.session_talk.specs.Talk.{Talk, Over, Says}
 use Rattle.session_talk.specs.Texts.{fast_payload, full_payload, method_name, switch_payload}
 use Rattle.session_talk.proofs.Conversing.{last_moves}

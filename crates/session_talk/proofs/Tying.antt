@@ -1,15 +1,14 @@
 -- What is owed over bytes is what is owed for the packets among them.
-use Rattle.std.proofs.Common.{◌≡◌, refl, ap, sym, ◌∙◌, ℕ, Bool, List, [], ◌∷◌, ◌++◌, Option, Some, None}
+use Rattle.std.proofs.Common.{◌≡◌, refl, ap, sym, ◌∙◌, ℕ, Bool, List, [], ◌∷◌, Option, Some, None}
 use Rattle.packet_frame.specs.Front.{Front, Whole, Part, Fault}
 use Rattle.packet_frame.specs.Packets.{id_after}
 use Rattle.packet_frame.specs.declared.packets.FrameFault.{FrameFault}
-use Rattle.packet_frame.specs.declared.packets.Packet.{Packet}
 use Rattle.session_talk.specs.Owed as owing
 use Rattle.session_talk.specs.Owed.{Own, Drew, Saw, Late, Did, Owed, Sent, owed}
-use Rattle.session_talk.specs.Talk.{Talk, Says, Hears, Draws, Looks, Checks, Settles, SettlesLocked, Over}
-use Rattle.session_talk.specs.Transcript.{Reading, WiredIsOwed, after_packet, by_packet, fault_at, fault_in, read_of, told_fault, wanted_at}
+use Rattle.session_talk.specs.Talk.{Talk, Says, Hears, Draws, Looks, Checks, Settles, SettlesLocked}
+use Rattle.session_talk.specs.Transcript.{Reading, WiredIsOwed, after_packet, by_packet, fault_at, fault_in, read_of, told_fault}
 use Rattle.session_talk.specs.Turns.{faulted, id_behind, wanted}
-use Rattle.session_talk.specs.Wired.{Stream, Wired, after_all_sent, after_sent, behind_of, by_front, front_of, said_from, stops, wired}
+use Rattle.session_talk.specs.Wired.{Stream, Wired, after_sent, behind_of, by_front, front_of, said_from, stops, wired}
 
 -- a payload that is sent first
 sent_first : (first : Sent) (fault : Option FrameFault) (o : Owed) (stream : Stream) →
@@ -32,8 +31,8 @@ module _ (next : ℕ) (anew : Bool) (k : List ℕ → Talk) (stream : Stream) (o
   abbrev Again : Type 0
   Again = (last : ℕ) (payload : List ℕ) (s : Stream) →
       wired (id_after last) (k payload) s owns
-          ≡ (let read = read_of (id_after last) (k payload) s owns in
-          let o = owed (id_after last) (k payload) read.packets owns in told_fault (fault_at o.next o.at read.left) o read.left)
+      ≡ (let read = read_of (id_after last) (k payload) s owns in
+      let o = owed (id_after last) (k payload) read.packets owns in told_fault (fault_at o.next o.at read.left) o read.left)
 
   by_shown : Again → (f : Front) → front_of (wanted anew next) stream ≡ f → wired_by f ≡ tied (read_by f)
   unfolding wired owed

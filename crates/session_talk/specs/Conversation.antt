@@ -3,11 +3,10 @@
 --
 -- MySQL client/server protocol, "Connection Phase", "Protocol::AuthSwitchRequest" and "Caching SHA-2 Pluggable
 -- Authentication".
-use Rattle.std.specs.Prelude.{◌≡◌, ◌≢◌, ◌⊎◌, ℕ, true, false, List, [], ◌∷◌, ◌++◌, Option, Some, None, IsTrue}
+use Rattle.std.specs.Prelude.{◌≡◌, ◌≢◌, ◌⊎◌, ℕ, true, false, List, [], ◌∷◌, ◌++◌, Option, Some, None}
 use Rattle.lg_base.specs.declared.errors.Code.{Code}
 use Rattle.factor_chain.specs.Checking.{known_fits_of}
 use Rattle.factor_chain.specs.declared.credentials.Look.{Look}
-use Rattle.factor_chain.specs.declared.credentials.Method.{Method}
 use Rattle.factor_chain.specs.declared.credentials.Method.TheVariants.{Native, CachingSha2}
 use Rattle.factor_chain.specs.declared.evidence_list.Evidence.{Evidence}
 use Rattle.factor_chain.specs.declared.evidence_list.Evidence.TheVariants as evidence
@@ -17,7 +16,7 @@ use Rattle.account_history.specs.declared.entries.Who.TheVariants.{Login}
 use Rattle.auth_packets.specs.Handshake.{response}
 use Rattle.auth_packets.specs.declared.handshake.Response.{Response}
 use Rattle.session_talk.specs.Logins.{clear_evidence, method_of, refusal_of, without_zero}
-use Rattle.session_talk.specs.Talk.{Talk, Says, Hears, Draws, Looks, Checks, Settles, SettlesLocked, Over}
+use Rattle.session_talk.specs.Talk.{Talk, Says, Hears, Draws, Looks, Checks, Settles, SettlesLocked}
 use Rattle.session_talk.specs.Texts.{error_payload, fast_payload, full_payload, greeting_payload, method_name, ok_payload, switch_payload}
 
 -- what happens in a session, in order

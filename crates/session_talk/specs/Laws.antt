@@ -6,7 +6,7 @@ use Rattle.factor_chain.specs.declared.evidence_list.Evidence.{Evidence}
 use Rattle.account_history.specs.declared.entries.Reply.{Reply}
 use Rattle.session_talk.specs.Bounds.{Within}
 use Rattle.session_talk.specs.Conversation.{Conversation, Goes, Move, Sent as Send, Settled}
-use Rattle.session_talk.specs.Logins.{outcome, session, settling}
+use Rattle.session_talk.specs.Logins.{session, settling}
 use Rattle.session_talk.specs.Owed as owing
 use Rattle.session_talk.specs.Owed.{Own, Late, Saw, Did, owed}
 use Rattle.session_talk.specs.Runs.{AllAnswer, Standing, owns_in, packets_in, spoken, stands_after}

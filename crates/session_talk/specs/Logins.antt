@@ -1,11 +1,10 @@
 -- A session, part by part: MySQL client/server protocol, "Connection Phase" with its plugins
 -- mysql_native_password and caching_sha2_password, and "Command Phase".
-use Rattle.std.specs.Prelude.{ℕ, zero, suc, Bool, true, false, if◌then◌else◌, List, [], ◌∷◌, Option, Some, None, Result, Ok, Err}
+use Rattle.std.specs.Prelude.{ℕ, zero, suc, Bool, true, false, List, [], ◌∷◌, Option, Some, None, Result, Ok, Err}
 use Rattle.std.specs.Str.{bytes_eq}
 use Rattle.lg_base.specs.declared.errors.Code.{Code}
 use Rattle.lg_base.specs.declared.errors.Code.TheVariants as code
 use Rattle.lg_base.specs.Errors.{number_of}
-use Rattle.login_lock.specs.declared.LockRule.{LockRule}
 use Rattle.factor_chain.specs.CheckedOf.{CheckedOf}
 use Rattle.factor_chain.specs.Checking.{known_fits_of}
 use Rattle.factor_chain.specs.declared.credentials.InForce.{InForce}
@@ -16,7 +15,6 @@ use Rattle.factor_chain.specs.declared.evidence_list.Evidence.{Evidence}
 use Rattle.factor_chain.specs.declared.evidence_list.Evidence.TheVariants as evidence
 use Rattle.account_history.specs.declared.entries.Reply.{Reply}
 use Rattle.account_history.specs.declared.entries.Reply.TheVariants.{Opened, Sandbox, Blocked, Denied, Locked, MustChange}
-use Rattle.account_history.specs.declared.entries.Who.{Who}
 use Rattle.account_history.specs.declared.entries.Who.TheVariants.{Login}
 use Rattle.wire_form.specs.Payloads.{start}
 use Rattle.auth_packets.specs.Commands.{command}

@@ -5,7 +5,7 @@ use Rattle.packet_frame.specs.Packets.{id_after}
 use Rattle.packet_frame.specs.declared.packets.Packet.{Packet}
 use Rattle.factor_chain.specs.declared.credentials.Look.{Look}
 use Rattle.account_history.specs.declared.entries.Reply.{Reply}
-use Rattle.session_talk.specs.Talk.{Talk, Says, Hears, Draws, Looks, Checks, Settles, SettlesLocked, Over}
+use Rattle.session_talk.specs.Talk.{Talk, Says, Hears, Draws, Looks, Checks, Settles, SettlesLocked}
 use Rattle.session_talk.specs.Turns.{id_behind}
 
 -- what the server's side of a session is answered, in order: nonces by the draws, and looks, stale answers and replies

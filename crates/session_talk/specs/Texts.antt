@@ -1,9 +1,7 @@
 -- The payloads that the server sends.
-use Rattle.std.specs.Prelude.{ℕ, List, [], ◌∷◌, ◌++◌, Bool, Option, Some, None, codes}
+use Rattle.std.specs.Prelude.{ℕ, List, [], ◌∷◌, ◌++◌, Option, Some, None, codes}
 use Rattle.lg_base.specs.declared.errors.Code.{Code}
-use Rattle.lg_base.specs.declared.errors.Code.TheVariants as code
 use Rattle.lg_base.specs.Errors.{number_of, state_of, text_of}
-use Rattle.login_lock.specs.declared.LockRule.{LockRule}
 use Rattle.login_lock.specs.declared.LockTime.{LockTime}
 use Rattle.login_lock.specs.declared.LockTime.TheVariants.{Days, Unbounded}
 use Rattle.factor_chain.specs.declared.credentials.Method.{Method}

@@ -5,7 +5,6 @@ use Rattle.lg_base.specs.declared.errors.Code.TheVariants as code
 use Rattle.packet_frame.specs.Packets.{id_after}
 use Rattle.packet_frame.specs.declared.packets.FrameFault.{FrameFault}
 use Rattle.packet_frame.specs.declared.packets.FrameFault.TheVariants.{TooLarge, OutOfOrder, Memory as NoMemory}
-use Rattle.factor_chain.specs.CheckedOf.{CheckedOf}
 use Rattle.factor_chain.specs.declared.credentials.InForce.{InForce}
 use Rattle.session_talk.specs.declared.actions.Action.{Action}
 use Rattle.session_talk.specs.declared.actions.Ask.{Ask}

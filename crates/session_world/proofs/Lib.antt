@@ -1,0 +1,5 @@
+mod Fronting
+mod Turning
+mod Giving
+mod Turned
+mod Kept

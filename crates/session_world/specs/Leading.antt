@@ -1,0 +1,70 @@
+-- One turn of a session in a world, and what follows it.
+use Rattle.std.specs.Prelude.{◌≡◌, ℕ, List, ◌++◌}
+use Rattle.account_history.specs.declared.entries.Who.{Who}
+use Rattle.session_talk.specs.declared.actions.Ask.{Ask}
+use Rattle.session_talk.specs.declared.actions.Ask.TheVariants as ask
+use Rattle.session_talk.specs.Runs.{sent_from}
+use Rattle.session_talk.specs.Talk.{Talk}
+use Rattle.session_talk.specs.Turns.{first_id, heard, id_behind_all, rest, said}
+use Rattle.session_talk.specs.declared.inputs.Input.{Input}
+use Rattle.session_talk.specs.declared.inputs.Input.TheVariants as input
+use Rattle.session_talk.specs.Wired.{Stream}
+use Rattle.session_world.specs.declared.calls.Calls.{Calls}
+use Rattle.session_world.specs.declared.calls.Peer.{Peer}
+use Rattle.session_world.specs.Going.{Common, Gone, Line, going, stops}
+use Rattle.session_world.specs.Printing.{lines_text, send_lines}
+
+-- these lines, and then all that came of going on
+abbrev pub after_lines : List Line → Gone → Gone
+after_lines before g = record g { lines = before ++ g.lines }
+
+-- what is sent because of an input
+abbrev pub sent_because : (next : ℕ) → Talk → Input → List Line
+sent_because next t given = send_lines (sent_from (first_id next t given) (said (heard t given)))
+
+-- what is printed so far and what is still to come of going on are, together, what is printed in another place and what
+-- is to come there
+pub record LeadsTo (session : ℕ) (here : List ℕ) (coming : Gone) (there : List ℕ) (all : Gone) : Type 0 where
+  pub printed : here ++ lines_text session coming.lines ≡ there ++ lines_text session all.lines
+  pub common : coming.common ≡ all.common
+  pub next : coming.next ≡ all.next
+  pub at : coming.at ≡ all.at
+  pub unread : coming.unread ≡ all.unread
+
+-- an input that gives back what was asked about
+abbrev pub IsGivenBack : Input → Type 0
+IsGivenBack (input.Checked checked) = Unit {0}
+IsGivenBack (input.Stale evidences) = Unit {0}
+IsGivenBack _ = ⊥
+
+-- the same, where a session goes on from one state to another
+abbrev pub Leads : (session : ℕ) → Peer → (here : List ℕ) → Calls → Common → (next : ℕ) → Talk → Stream →
+    (there : List ℕ) → Calls → Common → (next_before : ℕ) → Talk → Stream → Type 0
+Leads session peer here calls c next t stream there calls_before d next_before u before =
+    LeadsTo session here (going peer calls c next t stream) there (going peer calls_before d next_before u before)
+
+-- a session waits, and nothing more comes
+abbrev pub Rests : (session : ℕ) → Peer → (here : List ℕ) → Common → (next : ℕ) → Talk → Stream →
+    (there : List ℕ) → Calls → Common → (next_before : ℕ) → Talk → Stream → Type 0
+Rests session peer here c next t stream there calls d next_before u before =
+    LeadsTo session here (stops c next t stream) there (going peer calls d next_before u before)
+
+-- what was given to a session: what it printed, and where it then stands
+pub record Acted (session : ℕ) (next : ℕ) (t : Talk) (given : Input) (here now_here : List ℕ) (next_after : ℕ) (after : Talk) : Type 0 where
+  pub printed : now_here ≡ here ++ lines_text session (sent_because next t given)
+  pub stands : after ≡ rest (heard t given)
+  pub next_is : next_after ≡ id_behind_all (first_id next t given) (said (heard t given))
+
+-- an account is asked for, for the first time or again
+abbrev pub IsLookAsked : Ask → Who → Type 0
+IsLookAsked (ask.Observe whose) who = whose ≡ who
+IsLookAsked (ask.Renew whose) who = whose ≡ who
+IsLookAsked _ who = ⊥
+
+-- a call of the account store is asked for
+abbrev pub IsCall : Ask → Type 0
+IsCall (ask.Observe who) = Unit {0}
+IsCall (ask.Renew who) = Unit {0}
+IsCall (ask.Settle checked flags) = Unit {0}
+IsCall (ask.SettleLocked user evidences flags) = Unit {0}
+IsCall _ = ⊥
