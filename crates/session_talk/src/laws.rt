@@ -9,7 +9,7 @@ pub fn what_is_owed_goes_on()
     ensures bytes { WiredGoesOn }
 {}
 
-/// Over any inputs that answer what was asked, a session sends what is owed for them.
+/// Over inputs that answer what was asked, a session sends what is owed for them, as long as reading hasn't ended.
 pub fn runs_are_owed()
     ensures { RunsAreOwed }
 {}
