@@ -38,123 +38,136 @@ fn table_of(alloc: Global) -> Result<Table, Memory> {
     Table::new(alloc, &[nat], SETTINGS)
 }
 
-/// Bytes come from the peer of a session, which then goes on.
-fn send(
+/// A world, and what it has printed.
+#[derive(Drop)]
+struct Printed {
     alloc: Global,
-    held: Held,
-    bytes: &[u8],
-    table: &mut Table,
-    out: &mut Out,
-) -> Result<Held, Memory> {
-    go(alloc, with_bytes(held, bytes)?, Calls::Nothing, table, out)
+    table: Table,
+    out: Out,
+}
+
+fn begun(alloc: Global) -> Result<Printed, Memory> {
+    Ok(Printed {
+        alloc,
+        table: table_of(alloc)?,
+        out: Out::new(alloc),
+    })
+}
+
+fn opened(world: &mut Printed) -> Result<Held, Memory> {
+    open(world.alloc, 1, &mut world.table, &mut world.out)
+}
+
+fn goes(world: &mut Printed, held: Held, calls: Calls) -> Result<Held, Memory> {
+    go(world.alloc, held, calls, &mut world.table, &mut world.out)
+}
+
+/// Bytes come from the peer of a session, which then goes on.
+fn sends(world: &mut Printed, held: Held, bytes: &[u8]) -> Result<Held, Memory> {
+    let held = with_bytes(held, bytes)?;
+    goes(world, held, Calls::Nothing)
 }
 
 /// Bytes come one by one.
-fn send_slowly(
-    alloc: Global,
-    first: Held,
-    bytes: &[u8],
-    table: &mut Table,
-    out: &mut Out,
-) -> Result<Held, Memory> {
+fn sends_slowly(world: &mut Printed, first: Held, bytes: &[u8]) -> Result<Held, Memory> {
     let mut held = first;
     for byte in bytes {
-        held = send(alloc, held, &[*byte], table, out)?;
+        held = sends(world, held, &[*byte])?;
     }
     Ok(held)
 }
 
-fn joined(alloc: Global, first: &[u8], second: &[u8], third: &[u8]) -> Result<Out, Memory> {
-    let mut text = Out::new(alloc);
+/// The peer stands otherwise.
+fn leaves(world: &mut Printed, held: Held, peer: Peer) -> Result<Held, Memory> {
+    goes(world, with_peer(held, peer), Calls::Nothing)
+}
+
+/// Whether these three texts are what was printed.
+fn is_printed(world: &Printed, first: &[u8], second: &[u8], third: &[u8]) -> Result<bool, Memory> {
+    let mut text = Out::new(world.alloc);
     text.bytes(first)?;
     text.bytes(second)?;
     text.bytes(third)?;
-    Ok(text)
+    Ok(world.out.as_slice() == text.as_slice())
+}
+
+fn right_response(alloc: Global) -> Result<Vec<u8>, Fail> {
+    Ok(hex::decode(alloc, RIGHT)?)
+}
+
+fn waits(held: &Held) -> bool {
+    waits_for_call(held)
+}
+
+fn is_there(held: &Held) -> bool {
+    is_peer_there(held)
+}
+
+/// A session whose client has responded.
+fn responded(world: &mut Printed) -> Result<Held, Fail> {
+    let bytes = right_response(world.alloc)?;
+    let held = opened(world)?;
+    Ok(sends(world, held, bytes.as_slice())?)
 }
 
 #[test]
-fn a_login_is_printed_line_by_line(rt: HostRuntime) -> Result<(), Fail> {
-    let alloc = rt.alloc();
-    let mut out = Out::new(alloc);
-    let mut table = table_of(alloc)?;
-    let bytes = hex::decode(alloc, RIGHT)?;
-    let held = open(alloc, 1, &mut table, &mut out)?;
-    assert!(rt; !waits_for_call(&held));
-    let held = send(alloc, held, bytes.as_slice(), &mut table, &mut out)?;
-    assert_eq!(rt; out.as_slice(), GREETED);
-    assert!(rt; waits_for_call(&held));
-    let held = go(alloc, held, Calls::One, &mut table, &mut out)?;
-    assert_eq!(rt;
-        out.as_slice(),
-        joined(alloc, GREETED, OBSERVED, b"")?.as_slice()
-    );
-    let held = go(alloc, held, Calls::One, &mut table, &mut out)?;
-    assert_eq!(rt;
-        out.as_slice(),
-        joined(alloc, GREETED, OBSERVED, OPENED)?.as_slice()
-    );
-    assert_eq!(rt; table.entries(), 2);
-    assert!(rt; !waits_for_call(&held));
-    assert!(rt; is_peer_there(&held));
+fn a_response_waits_for_the_accounts(rt: HostRuntime) -> Result<(), Fail> {
+    let mut world = begun(rt.alloc())?;
+    let held = responded(&mut world)?;
+    assert!(rt; is_printed(&world, GREETED, b"", b"")?);
+    assert!(rt; waits(&held));
+    Ok(())
+}
+
+#[test]
+fn a_look_is_one_call(rt: HostRuntime) -> Result<(), Fail> {
+    let mut world = begun(rt.alloc())?;
+    let held = responded(&mut world)?;
+    let held = goes(&mut world, held, Calls::One)?;
+    assert!(rt; is_printed(&world, GREETED, OBSERVED, b"")?);
+    assert!(rt; waits(&held));
+    Ok(())
+}
+
+#[test]
+fn a_settling_opens_the_session(rt: HostRuntime) -> Result<(), Fail> {
+    let mut world = begun(rt.alloc())?;
+    let held = responded(&mut world)?;
+    let held = goes(&mut world, held, Calls::All)?;
+    assert!(rt; is_printed(&world, GREETED, OBSERVED, OPENED)?);
+    assert!(rt; !waits(&held));
     Ok(())
 }
 
 #[test]
 fn the_cutting_of_bytes_changes_nothing(rt: HostRuntime) -> Result<(), Fail> {
-    let alloc = rt.alloc();
-    let mut out = Out::new(alloc);
-    let mut table = table_of(alloc)?;
-    let bytes = hex::decode(alloc, RIGHT)?;
-    let held = open(alloc, 1, &mut table, &mut out)?;
-    let held = send_slowly(alloc, held, bytes.as_slice(), &mut table, &mut out)?;
-    let held = go(alloc, held, Calls::All, &mut table, &mut out)?;
-    assert_eq!(rt;
-        out.as_slice(),
-        joined(alloc, GREETED, OBSERVED, OPENED)?.as_slice()
-    );
-    assert!(rt; is_peer_there(&held));
+    let mut world = begun(rt.alloc())?;
+    let bytes = right_response(rt.alloc())?;
+    let held = opened(&mut world)?;
+    let held = sends_slowly(&mut world, held, bytes.as_slice())?;
+    let held = goes(&mut world, held, Calls::All)?;
+    assert!(rt; is_printed(&world, GREETED, OBSERVED, OPENED)?);
+    assert!(rt; is_there(&held));
     Ok(())
 }
 
 #[test]
 fn a_peer_that_closes_ends_the_session(rt: HostRuntime) -> Result<(), Fail> {
-    let alloc = rt.alloc();
-    let mut out = Out::new(alloc);
-    let mut table = table_of(alloc)?;
-    let held = open(alloc, 1, &mut table, &mut out)?;
-    let held = send(alloc, held, &[0x3c, 0x00], &mut table, &mut out)?;
-    let held = go(
-        alloc,
-        with_peer(held, Peer::Closed),
-        Calls::Nothing,
-        &mut table,
-        &mut out,
-    )?;
-    assert_eq!(rt;
-        out.as_slice(),
-        joined(alloc, GREETED, b"ended 1 closed cut\n", b"")?.as_slice()
-    );
-    assert!(rt; !is_peer_there(&held));
+    let mut world = begun(rt.alloc())?;
+    let held = opened(&mut world)?;
+    let held = sends(&mut world, held, &[0x3c, 0x00])?;
+    let held = leaves(&mut world, held, Peer::Closed)?;
+    assert!(rt; is_printed(&world, GREETED, b"ended 1 closed cut\n", b"")?);
+    assert!(rt; !is_there(&held));
     Ok(())
 }
 
 #[test]
 fn a_link_that_fails_ends_the_session(rt: HostRuntime) -> Result<(), Fail> {
-    let alloc = rt.alloc();
-    let mut out = Out::new(alloc);
-    let mut table = table_of(alloc)?;
-    let held = open(alloc, 1, &mut table, &mut out)?;
-    let held = go(
-        alloc,
-        with_peer(held, Peer::Failed),
-        Calls::Nothing,
-        &mut table,
-        &mut out,
-    )?;
-    assert_eq!(rt;
-        out.as_slice(),
-        joined(alloc, GREETED, b"ended 1 linkfault\n", b"")?.as_slice()
-    );
-    assert!(rt; !is_peer_there(&held));
+    let mut world = begun(rt.alloc())?;
+    let held = opened(&mut world)?;
+    let held = leaves(&mut world, held, Peer::Failed)?;
+    assert!(rt; is_printed(&world, GREETED, b"ended 1 linkfault\n", b"")?);
+    assert!(rt; !is_there(&held));
     Ok(())
 }
