@@ -1,5 +1,5 @@
 -- What reading a message found, as the reader on lists.
-use Rattle.std.proofs.Common.{◌≡◌, refl, T, arith, sym, ap, subst, ℕ, zero, suc, ◌-◌, List, [], ◌∷◌, ◌++◌, length, Result, Option, Some, None, Bool, true, false, ◌&&◌, ◌==◌}
+use Rattle.std.proofs.Common.{◌≡◌, refl, T, arith, sym, ap, subst, ℕ, zero, suc, ◌-◌, List, [], ◌∷◌, ◌++◌, length, Result, Option, Some, None, Bool, true, false, ◌&&◌}
 use Rattle.std.proofs.Math.Dec.{eqb→eq}
 use Rattle.factor_chain.specs.Checking.{known_fits_of}
 use Rattle.factor_chain.specs.declared.credentials.InForce.{InForce}

@@ -1,2 +1,3 @@
+mod Driving
 mod Found
 mod Whole

@@ -1,5 +1,5 @@
 -- What the server sends can be written.
-use Rattle.std.proofs.Common.{◌≡◌, refl, ap, sym, ◌∙◌, ℕ, zero, suc, ◌+◌, ◌<◌, ◌==◌, List, [], ◌∷◌, length, get_or, Contains, Bool, true, false, ◌||◌, codes, subst, arith, eq-eqb}
+use Rattle.std.proofs.Common.{◌≡◌, refl, sym, ℕ, zero, suc, ◌<◌, ◌==◌, List, [], ◌∷◌, length, get_or, Contains, Bool, true, false, ◌||◌, codes, subst, arith, eq-eqb}
 use Rattle.std.specs.List.{list_any}
 use Rattle.factor_chain.specs.declared.credentials.Method.{Method}
 use Rattle.factor_chain.specs.declared.credentials.Method.TheVariants.{Native, CachingSha2}

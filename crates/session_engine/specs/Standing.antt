@@ -1,6 +1,5 @@
 -- The talk that each phase of a session stands for.
-use Rattle.std.specs.Prelude.{◌≡◌, ℕ, zero, suc, Bool, true, false, List, Option}
-use Rattle.factor_chain.specs.CheckedOf.{CheckedOf}
+use Rattle.std.specs.Prelude.{◌≡◌, ℕ}
 use Rattle.session_engine.specs.declared.phases.Phase.{Phase}
 use Rattle.session_engine.specs.declared.phases.Phase.TheVariants as phase
 use Rattle.session_engine.specs.declared.session.Session.{Session}
