@@ -1,17 +1,15 @@
 //! Which accounts have a record: the ranges of the fields, and what must stand together.
 
 ghost use Rattle.account_keeper.specs.Record.{FallFrom, FitsRecord, IsOf, IsSet, LabelFits, LabelsFit, LifetimeFits, LimitFits, LockTimeFits, PasswordFits, PastFits, PastsFit, SecondaryFits, StoredFits, UserFits};
-ghost use Rattle.caching_sha2.specs.Stored.{IsStorable};
-ghost use Rattle.sha256_crypt.specs.Alphabet.{IsSaltByte};
+ghost use Rattle.caching_sha2.specs.Stored.{IsSaltByte, IsStorable};
 ghost use Rattle.std.specs.List.{All};
 ghost use Rattle.std.specs.Prelude.{◌≡◌, ◌↔◌, ◌<◌, IsTrue, length};
 
 use account_rules::{Account, Lifetime, Limit};
-use caching_sha2::Sha2Stored;
+use caching_sha2::{Sha2Stored, is_salt_byte};
 use factor_chain::{Method, PastRecord, Stored};
 use lg_base::Bytes;
 use login_lock::LockTime;
-use sha256_crypt::is_salt_byte;
 
 /// Whether all bytes are of the alphabet of salts and sums.
 fn is_salt<const N: usize>(bytes: &[u8; N]) -> bool

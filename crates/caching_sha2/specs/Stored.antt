@@ -1,9 +1,13 @@
 -- The stored text of a caching_sha2_password credential: the characters `$A$`, three upper-case
 -- hexadecimal digits of the thousands of rounds from 001 to FFF, `$`, 20 bytes of salt and 43 of sum.
-use Rattle.std.specs.Prelude.{◌≡◌, ℕ, ◌≤◌, ◌/◌, ◌%◌, List, [], ◌∷◌, ◌++◌, length, slice_index, codes}
+use Rattle.std.specs.Prelude.{◌≡◌, ℕ, ◌≤◌, ◌⊎◌, ◌/◌, ◌%◌, List, [], ◌∷◌, ◌++◌, length, slice_index, codes}
 use Rattle.std.specs.List.{All}
-use Rattle.sha256_crypt.specs.Alphabet.{IsSaltByte}
 use Rattle.caching_sha2.specs.declared.stored.Sha2Stored.{Sha2Stored}
+
+-- the byte may stand in a salt and in a sum, as one of `./0-9A-Za-z`: one from `.` to `9`, from `A` to `Z` or from `a`
+-- to `z`
+unfoldable pub IsSaltByte : ℕ → Type 0
+IsSaltByte b = ((46 ≤ b) × (b ≤ 57)) ⊎ ((65 ≤ b) × (b ≤ 90)) ⊎ ((97 ≤ b) × (b ≤ 122))
 
 -- the character of a hexadecimal digit
 abbrev pub hex_digit : ℕ → ℕ

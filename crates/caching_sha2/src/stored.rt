@@ -3,15 +3,12 @@
 //! salt and 43 of sum. The form is this project's own, and nothing is claimed of what other servers
 //! store.
 
-ghost use Rattle.std.specs.Prelude.{◌≡◌, ℕ, ◌<◌, ◌≤◌, ◌+◌, [], ◌∷◌, ◌++◌, length, take, drop, IfSome};
+ghost use Rattle.std.specs.Prelude.{◌≡◌, ℕ, ◌<◌, ◌≤◌, ◌+◌, [], ◌∷◌, ◌++◌, ◌↔◌, length, take, drop, IfSome, IsTrue};
 ghost use Rattle.std.specs.List.{All};
-ghost use Rattle.sha256_crypt.specs.Alphabet.{IsSaltByte};
-ghost use Rattle.caching_sha2.specs.Stored.{IsStorable, IsStoredText, hex_digit, hex_digits};
+ghost use Rattle.caching_sha2.specs.Stored.{IsSaltByte, IsStorable, IsStoredText, hex_digit, hex_digits};
 ghost use Rattle.caching_sha2.specs.declared.stored.Sha2Stored.{Sha2Stored};
 
-use sha256_crypt::is_salt_byte;
-
-/// The sum of a password under a salt, by `sha256_crypt::crypt` in `1000 * thousands` rounds.
+/// The sum of a password under a salt, by SHA-256 crypt in `1000 * thousands` rounds.
 #[derive(Debug, Clone, Copy, PartialEq, Eq)]
 pub struct Sha2Stored {
     pub thousands: u16,
@@ -61,6 +58,14 @@ fn read_thousands(high: u8, middle: u8, low: u8) -> Option<u16>
 {
     let number = hex_value(high)? * 256 + hex_value(middle)? * 16 + hex_value(low)?;
     if number == 0 { None } else { Some(number) }
+}
+
+/// Whether the byte may stand in a salt and in a sum: it is one of `./0-9A-Za-z`.
+#[tactic(auto, unfolding(crate::specs::Stored::IsSaltByte))]
+pub fn is_salt_byte(byte: u8) -> bool
+    ensures { IsTrue result ↔ IsSaltByte byte }
+{
+    matches!(byte, b'.'..=b'9' | b'A'..=b'Z' | b'a'..=b'z')
 }
 
 /// The bytes in an array. None where they aren't as many or one isn't a salt byte.

@@ -112,3 +112,20 @@ fn texts_that_are_none(rt: HostRuntime) {
     longer[..70].copy_from_slice(TEXT);
     assert!(rt; read_stored(&longer).is_none());
 }
+
+#[test]
+fn salt_bytes(rt: HostRuntime) {
+    let mut count = 0u32;
+    for byte in 0..=255u8 {
+        if is_salt_byte(byte) {
+            count = count.wrapping_add(1);
+        }
+    }
+    assert_eq!(rt; count, 64);
+    for byte in b"./09AZaz" {
+        assert!(rt; is_salt_byte(*byte));
+    }
+    for byte in b"-:@[`{$ \x00\xff" {
+        assert!(rt; !is_salt_byte(*byte));
+    }
+}

@@ -1,19 +1,11 @@
 //! The alphabet of crypt's texts, and the text of a digest (step 22 of the text on SHA-crypt).
 
-ghost use Rattle.std.specs.Prelude.{◌≡◌, ◌<◌, ◌%◌, slice_index, IsTrue, ◌↔◌};
+ghost use Rattle.std.specs.Prelude.{◌≡◌, ◌<◌, ◌%◌, slice_index};
 ghost use Rattle.sha256_crypt.specs.Alphabet.{alphabet, IsSaltByte};
 ghost use Rattle.sha256_crypt.specs.Crypt.{characters, group, encoded};
 
 /// The characters of crypt's texts: the one at place k stands for the number k.
 const ALPHABET: &[u8; 64] = b"./0123456789ABCDEFGHIJKLMNOPQRSTUVWXYZabcdefghijklmnopqrstuvwxyz";
-
-/// Whether the byte may stand in a salt and in a sum: it is one of `./0-9A-Za-z`.
-#[tactic(auto, unfolding(crate::specs::Alphabet::IsSaltByte))]
-pub fn is_salt_byte(byte: u8) -> bool
-    ensures { IsTrue result ↔ IsSaltByte byte }
-{
-    matches!(byte, b'.'..=b'9' | b'A'..=b'Z' | b'a'..=b'z')
-}
 
 /// The salt byte that stands for a number below 64.
 pub fn salt_byte(number: u8) -> u8

@@ -14,7 +14,7 @@ ghost use Rattle.sha256_crypt.specs.Crypt.{crypt_of};
 
 use digests::{digest_of_copies, start_digest, stretched};
 use encoding::encoded;
-pub use encoding::{is_salt_byte, salt_byte};
+pub use encoding::salt_byte;
 use rounds::after_rounds;
 
 mod digests;

@@ -34,21 +34,8 @@ fn any_bytes_may_stand_in_a_password(rt: HostRuntime) {
 
 #[test]
 fn salt_bytes(rt: HostRuntime) {
-    let mut count = 0u32;
-    for byte in 0..=255u8 {
-        if is_salt_byte(byte) {
-            count = count.wrapping_add(1);
-        }
-    }
-    assert_eq!(rt; count, 64);
     assert_eq!(rt; salt_byte(0), b'.');
     assert_eq!(rt; salt_byte(11), b'9');
     assert_eq!(rt; salt_byte(12), b'A');
     assert_eq!(rt; salt_byte(63), b'z');
-    for byte in b"./09AZaz" {
-        assert!(rt; is_salt_byte(*byte));
-    }
-    for byte in b"-:@[`{$ \x00\xff" {
-        assert!(rt; !is_salt_byte(*byte));
-    }
 }
