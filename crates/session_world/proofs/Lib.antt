@@ -3,3 +3,5 @@ mod Turning
 mod Giving
 mod Turned
 mod Kept
+mod Taking
+mod Happening

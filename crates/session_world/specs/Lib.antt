@@ -6,3 +6,5 @@ pub mod Inbox
 pub mod Leading
 pub mod Seats
 pub mod Begun
+pub mod Sessions
+pub mod Standing

@@ -12,10 +12,14 @@ pub mod going;
 pub mod held;
 pub mod inbox;
 mod printing;
+pub mod sessions;
+pub mod state;
 pub mod table;
 #[cfg(test)]
 mod tests;
 pub mod turns;
 pub mod world;
+pub mod worlds;
 
 pub use calls::{Calls, Peer};
+pub use worlds::World;
