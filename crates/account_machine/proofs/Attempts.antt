@@ -111,6 +111,7 @@ stands-attempted log t rows new settings before now log' s e r m a =
       same_settings = s.same_settings;
       same_moment = m ∙ max-moved before t.reading (moment (history log)) s.same_moment;
       rising = s.rising;
+      few_labels = s.few_labels;
       legal = (s.legal, a);
     })
 
@@ -124,5 +125,6 @@ stands-observed log who look rows settings now log' s e a =
       same_settings = s.same_settings;
       same_moment = s.same_moment;
       rising = s.rising;
+      few_labels = s.few_labels;
       legal = (s.legal, a);
     })

@@ -1,4 +1,5 @@
 mod Attempts
+mod Labelled
 mod Places
 mod Seen
 mod Starts

@@ -11,6 +11,7 @@ use Rattle.account_machine.specs.Openings.{native_accounts, native_stored, openi
 use Rattle.account_machine.specs.Rows.{Rise, new_rows, row_of}
 use Rattle.account_machine.specs.Stands.{Stands}
 use Rattle.account_machine.specs.declared.rows.Row.{Row}
+use Rattle.account_machine.proofs.Labelled.{opening-few}
 
 -- the native accounts with one more
 pub native-more : (id : ℕ) (xs : List Opening) (x : Opening)
@@ -43,6 +44,7 @@ stands-opening extra settings rows log r e =
       same_settings = refl;
       same_moment = sym (ap (λ (n : ℕ). max 0 n) (native-moment 2 extra));
       rising = (omega arith, native-rise 1 2 extra (omega arith));
+      few_labels = opening-few extra;
       legal = tt;
     })
 

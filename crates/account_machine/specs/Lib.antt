@@ -1,4 +1,5 @@
 pub mod Agreeing
+pub mod Labels
 pub mod Looks
 pub mod Openings
 pub mod Rows

@@ -1,10 +1,12 @@
 -- What the machine keeps stands for a history: its rows are the accounts after it with their tallies, and its
--- moment is the newest one.
+-- moment is the newest one. Each of the accounts has at most two further factors.
 use Rattle.std.specs.Prelude.{◌≡◌, ℕ, List}
+use Rattle.std.specs.List.{All}
 use Rattle.account_rules.specs.declared.accounts.Settings.{Settings}
 use Rattle.account_history.specs.Histories.{History, moment, start_of}
 use Rattle.account_history.specs.Legal.{IsLegal}
 use Rattle.account_history.specs.Records.{records}
+use Rattle.account_machine.specs.Labels.{HasFewLabels}
 use Rattle.account_machine.specs.declared.rows.Row.{Row}
 use Rattle.account_machine.specs.Rows.{Rise, rows_of}
 
@@ -13,4 +15,5 @@ pub record Stands (rows : List Row) (settings : Settings) (now : ℕ) (h : Histo
   pub same_settings : settings ≡ (start_of h).settings
   pub same_moment : now ≡ moment h
   pub rising : Rise 0 (records h)
+  pub few_labels : All HasFewLabels (records h)
   pub legal : IsLegal h

@@ -41,8 +41,9 @@ impl Accounts {
     ghost use Rattle.account_history.specs.declared.entries.Entry.TheVariants.{Attempted, Observed};
     ghost use Rattle.account_history.specs.declared.entries.Who.TheVariants.{Login};
     ghost use Rattle.account_machine.specs.Agreeing.{Agrees};
+    ghost use Rattle.account_machine.specs.Labels.{ShowsFewLabels};
     ghost use Rattle.account_machine.specs.Openings.{are_openings, opening_start};
-    ghost use Rattle.std.specs.Prelude.{◌≡◌, [], IfOk, IsTrue};
+    ghost use Rattle.std.specs.Prelude.{◌≡◌, [], IfOk, IfSome, IsTrue};
 
     /// The accounts of a start: `'root'@'localhost'` with number 1, without a password and with both
     /// privileges, and a native account at `localhost` for each of `extra`, with the next numbers. Each
@@ -60,9 +61,11 @@ impl Accounts {
         })
     }
 
-    /// What is seen of an account. The history has an entry of it once [`Accounts::observed`] is told.
+    /// What is seen of an account, which has at most two further factors. The history has an entry of it once
+    /// [`Accounts::observed`] is told.
     pub fn observe(&self, alloc: Global, who: &Who) -> Result<Look, Memory>
-        ensures { IfOk result (λ look. look ≡ look_of (history self.now) who.now) }
+        ensures look { IfOk result (λ look. look ≡ look_of (history self.now) who.now) }
+        ensures labels { IfOk result (λ look. IfSome look.in_force ShowsFewLabels) }
     {
         let _log = &self.log;
         look_at(alloc, self.rows.as_slice(), who)
