@@ -5,3 +5,4 @@ mod Turned
 mod Kept
 mod Taking
 mod Happening
+mod Answering

@@ -5,6 +5,7 @@ ghost use Rattle.session_world.specs.Drawing.{drawn_nonce};
 ghost use Rattle.session_world.specs.Going.{attempted, is_stale, next_number, replied, seen, with_draw, with_entry};
 ghost use Rattle.session_world.specs.Printing.{entry_line};
 ghost use Rattle.account_machine.specs.Openings.{are_openings, opening_start};
+ghost use Rattle.session_talk.specs.Turns.{has_few_labels};
 ghost use Rattle.std.specs.Prelude.{◌≡◌, ◌+◌, ◌++◌, [], length, IfOk, IsTrue, OnOk};
 
 use crate::printing::{print_attempt, print_look};
@@ -101,8 +102,10 @@ impl Table {
     }
 
     /// Looks at an account, which is an entry of the history, and prints its line.
+    #[tactic(auto, using(crate::proofs::Answering::few_labels))]
     pub fn look(&mut self, alloc: Global, who: &Who, out: &mut Out) -> Result<Look, Memory>
         ensures look { IfOk result (λ look. look ≡ seen self.old who.now) }
+        ensures labels { IfOk result (λ look. IsTrue (has_few_labels look.in_force)) }
         ensures entry { OnOk result (self.new ≡ with_entry self.old (Observed who.now (seen self.old who.now))) }
         ensures printed { OnOk result (out.new ≡ out.old ++ entry_line (next_number self.old) (Observed who.now (seen self.old who.now))) }
     {

@@ -3,13 +3,13 @@
 ghost use Rattle.account_history.specs.declared.entries.Entry.TheVariants.{Observed};
 ghost use Rattle.session_engine.specs.Standing.{next_of, talk_of_session};
 ghost use Rattle.session_talk.specs.Logins as login;
-ghost use Rattle.session_talk.specs.Turns.{IsAsked, IsBegun, asked};
+ghost use Rattle.session_talk.specs.Turns.{IsAsked, IsBegun, asked, is_answer};
 ghost use Rattle.session_talk.specs.declared.actions.Ask.TheVariants as ask;
 ghost use Rattle.session_world.specs.Going.{Common, spent};
 ghost use Rattle.session_world.specs.Leading.{Acted, IsLookAsked, Leads, Rests};
 ghost use Rattle.session_world.specs.Seats.{SameSeat};
 ghost use Rattle.session_world.specs.declared.calls.Calls.TheVariants as allowed;
-ghost use Rattle.std.specs.Prelude.{◌≡◌, ◌≢◌, ◌≤◌, length, IfOk, IfNone, IfSome, OnOk};
+ghost use Rattle.std.specs.Prelude.{◌≡◌, ◌≢◌, ◌≤◌, length, IfOk, IfNone, IfSome, IsTrue, OnOk};
 
 use crate::calls::{Calls, Peer};
 use crate::inbox::{Found, Inbox};
@@ -33,14 +33,12 @@ pub struct Seat {
 
 /// Gives a session an input, and prints what it sends because of it. What it asks for next is handed out.
 fn act(session: &mut Session, number: u32, input: Input, out: &mut Out) -> Result<Ask, Memory>
-    requires { IsAsked (talk_of_session session.old) input }
+    requires answers { IsTrue (is_answer (talk_of_session session.old) input) }
+    requires asked { IsAsked (talk_of_session session.old) input }
     ensures acted { OnOk result (Acted number (next_of session.old) (talk_of_session session.old) input out.old out.new (next_of session.new) (talk_of_session session.new)) }
     ensures asks { IfOk result (λ asks. asks ≡ asked (next_of session.new) (talk_of_session session.new)) }
     ensures begun { OnOk result (IsBegun (talk_of_session session.new)) }
 {
-    if !session.answers(&input) {
-        return Err(Memory);
-    }
     let Action { first, send, ask } = session.on(input)?;
     print_sends(out, number, first, send.as_slice())?;
     Ok(ask)
@@ -48,7 +46,7 @@ fn act(session: &mut Session, number: u32, input: Input, out: &mut Out) -> Resul
 
 /// The session waits for a packet: it is read, or a fault or the peer's end is told. None where there is nothing to
 /// read yet.
-#[tactic(auto, using(crate::proofs::Giving::free_asked, crate::proofs::Turned::packet_leads, crate::proofs::Turned::fault_leads, crate::proofs::Turned::closed_leads, crate::proofs::Turned::failed_leads, crate::proofs::Turned::waits_rests))]
+#[tactic(auto, using(crate::proofs::Answering::read_answers, crate::proofs::Giving::free_asked, crate::proofs::Turned::packet_leads, crate::proofs::Turned::fault_leads, crate::proofs::Turned::closed_leads, crate::proofs::Turned::failed_leads, crate::proofs::Turned::waits_rests))]
 pub fn read(alloc: Global, seat: &mut Seat, want: u8, out: &mut Out) -> Result<Option<Ask>, Memory>
     requires asked { asked (next_of seat.old.session) (talk_of_session seat.old.session) ≡ ask.Read want }
     requires begun { IsBegun (talk_of_session seat.old.session) }
@@ -85,7 +83,7 @@ pub fn read(alloc: Global, seat: &mut Seat, want: u8, out: &mut Out) -> Result<O
 }
 
 /// A new session begins with a nonce that is drawn, and sends its greeting.
-#[tactic(auto, using(crate::proofs::Giving::free_asked, crate::proofs::Turned::begin_leads))]
+#[tactic(auto, using(crate::proofs::Answering::start_answers, crate::proofs::Giving::free_asked, crate::proofs::Turned::begin_leads))]
 pub fn begin(seat: &mut Seat, table: &mut Table, out: &mut Out) -> Result<Ask, Memory>
     requires { talk_of_session seat.old.session ≡ login.session seat.old.number }
     ensures same { SameSeat seat.old seat.new }
@@ -99,7 +97,7 @@ pub fn begin(seat: &mut Seat, table: &mut Table, out: &mut Out) -> Result<Ask, M
 }
 
 /// The session waits for a nonce, which is drawn.
-#[tactic(auto, using(crate::proofs::Giving::free_asked))]
+#[tactic(auto, using(crate::proofs::Answering::draw_answers, crate::proofs::Giving::free_asked))]
 pub fn draw(seat: &mut Seat, table: &mut Table, out: &mut Out) -> Result<Ask, Memory>
     requires asked { asked (next_of seat.old.session) (talk_of_session seat.old.session) ≡ ask.Draw }
     requires begun { IsBegun (talk_of_session seat.old.session) }
@@ -114,7 +112,7 @@ pub fn draw(seat: &mut Seat, table: &mut Table, out: &mut Out) -> Result<Ask, Me
 }
 
 /// The session waits for the check of evidence on a look.
-#[tactic(auto, using(crate::proofs::Giving::check_asked))]
+#[tactic(auto, using(crate::proofs::Answering::check_answers, crate::proofs::Giving::check_asked))]
 pub fn check_evidence(
     seat: &mut Seat,
     look: Look,
@@ -134,7 +132,7 @@ pub fn check_evidence(
 }
 
 /// The session waits for a look at an account, for the first time or again.
-#[tactic(auto, using(crate::proofs::Giving::free_asked))]
+#[tactic(auto, using(crate::proofs::Answering::look_answers, crate::proofs::Giving::free_asked))]
 pub fn look(
     alloc: Global,
     seat: &mut Seat,
@@ -155,7 +153,7 @@ pub fn look(
 }
 
 /// The session waits for the settling of an attempt, by what was checked.
-#[tactic(auto, using(crate::proofs::Giving::free_asked, crate::proofs::Giving::stale_asked))]
+#[tactic(auto, using(crate::proofs::Answering::stale_answers, crate::proofs::Answering::settled_answers, crate::proofs::Giving::free_asked, crate::proofs::Giving::stale_asked))]
 pub fn settle(
     seat: &mut Seat,
     checked: Checked,
@@ -190,7 +188,7 @@ pub fn settle(
 }
 
 /// The session waits for the settling of an attempt, whose evidence is checked in the same step.
-#[tactic(auto, using(crate::proofs::Giving::free_asked))]
+#[tactic(auto, using(crate::proofs::Answering::locked_answers, crate::proofs::Giving::free_asked))]
 pub fn settle_locked(
     seat: &mut Seat,
     user: &Bytes,
