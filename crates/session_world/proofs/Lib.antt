@@ -6,3 +6,4 @@ mod Kept
 mod Taking
 mod Happening
 mod Answering
+mod Bounded

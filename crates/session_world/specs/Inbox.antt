@@ -1,5 +1,5 @@
 -- What is read of the bytes that a peer has sent.
-use Rattle.std.specs.Prelude.{◌≡◌, ◌≤◌, ◌+◌, ℕ, List, length, drop}
+use Rattle.std.specs.Prelude.{◌≡◌, ◌<◌, ◌≤◌, ◌+◌, ℕ, List, length, drop}
 use Rattle.packet_frame.specs.Front.{Whole, Part, Fault, front}
 use Rattle.packet_frame.specs.declared.packets.Want.TheVariants.{Exactly}
 use Rattle.session_talk.specs.Wired.{Stream, behind_of, front_of, most_payload}
@@ -14,6 +14,11 @@ Takes want old new (found.Packet packet) =
     (front_of want old ≡ Whole packet.first packet.last packet.payload new.bytes) × (packet.at ≡ old.place) × (new ≡ behind_of old new.bytes)
 Takes want old new found.Nothing = (new ≡ old) × ((missing : ℕ) × (front_of want old ≡ Part missing))
 Takes want old new (found.Fault fault) = (new ≡ old) × (front_of want old ≡ Fault fault)
+
+-- a packet that is read no longer stands among the bytes
+abbrev pub IsTakenOff : Stream → Stream → Found → Type 0
+IsTakenOff old new (found.Packet packet) = length new.bytes < length old.bytes
+IsTakenOff old new _ = Unit {0}
 
 -- what stands at the front of bytes at a place
 abbrev pub IsShown : (want place : ℕ) → List ℕ → Shown → Type 0

@@ -3,6 +3,7 @@ pub mod Going
 pub mod Printing
 pub mod Worlds
 pub mod Inbox
+pub mod Lasting
 pub mod Leading
 pub mod Seats
 pub mod Begun

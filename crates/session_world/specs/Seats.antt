@@ -6,6 +6,7 @@ use Rattle.session_world.specs.declared.calls.Calls.{Calls}
 use Rattle.session_world.specs.declared.going.Turn.{Turn}
 use Rattle.session_world.specs.declared.going.Turn.TheVariants as turn
 use Rattle.session_world.specs.Going.{Common}
+use Rattle.session_world.specs.Lasting.{ReadsOrSteps}
 use Rattle.session_world.specs.Leading.{Leads, Rests}
 use Rattle.session_world.specs.declared.turns.Seat.{Seat}
 
@@ -27,3 +28,8 @@ LeadsOn calls old before there new now here (turn.Rests asks) =
 abbrev pub AsksOn : Seat → Turn → Type 0
 AsksOn seat (turn.Goes asks left) = asks ≡ asked (next_of seat.session) (talk_of_session seat.session)
 AsksOn seat (turn.Rests asks) = asks ≡ asked (next_of seat.session) (talk_of_session seat.session)
+
+-- a turn that goes on reads bytes, or is one of the turns that were left
+abbrev pub NearsRest : Seat → Seat → Turn → Type 0
+NearsRest old new (turn.Goes asks left) = ReadsOrSteps old.inbox (talk_of_session old.session) new.inbox (talk_of_session new.session)
+NearsRest old new (turn.Rests asks) = Unit {0}

@@ -4,7 +4,7 @@ ghost use Rattle.session_engine.specs.Standing.{next_of, talk_of_session};
 ghost use Rattle.session_talk.specs.Turns.{IsBegun, asked};
 ghost use Rattle.session_world.specs.Going.{spent};
 ghost use Rattle.session_world.specs.Leading.{IsCall, Rests};
-ghost use Rattle.session_world.specs.Seats.{AsksOn, LeadsOn, SameSeat};
+ghost use Rattle.session_world.specs.Seats.{AsksOn, LeadsOn, NearsRest, SameSeat};
 ghost use Rattle.session_world.specs.declared.calls.Calls.TheVariants as allowed;
 ghost use Rattle.std.specs.Prelude.{◌≡◌, ◌≢◌, ◌≤◌, ◌↔◌, length, IfOk, IsTrue, OnOk};
 
@@ -16,8 +16,9 @@ use lg_base::{Memory, Out};
 use session_talk::Ask;
 use std::alloc::Global;
 
-/// The most questions that a session asks between two packets.
-const TURNS: u32 = 7;
+/// The most turns that a session takes until it reads a packet or rests: it asks at most seven questions between two
+/// packets, and then may be told that no packet comes.
+const TURNS: u32 = 8;
 
 /// What one turn leads to.
 #[derive(Drop)]
@@ -64,6 +65,7 @@ fn take_turn(
     ensures same { SameSeat seat.old seat.new }
     ensures shorter { length seat.new.inbox.bytes ≤ length seat.old.inbox.bytes }
     ensures leads { IfOk result (LeadsOn calls seat.old table.old out.old seat.new table.new out.new) }
+    ensures nears { IfOk result (NearsRest seat.old seat.new) }
     ensures asks { IfOk result (AsksOn seat.new) }
     ensures begun { OnOk result (IsBegun (talk_of_session seat.new.session)) }
 {
@@ -126,6 +128,7 @@ fn take_call(
     ensures same { SameSeat seat.old seat.new }
     ensures shorter { length seat.new.inbox.bytes ≤ length seat.old.inbox.bytes }
     ensures leads { IfOk result (LeadsOn calls seat.old table.old out.old seat.new table.new out.new) }
+    ensures nears { IfOk result (NearsRest seat.old seat.new) }
     ensures asks { IfOk result (AsksOn seat.new) }
     ensures begun { OnOk result (IsBegun (talk_of_session seat.new.session)) }
 {
@@ -154,6 +157,7 @@ fn take_call(
 
 /// A session goes on: it reads what it can, is given draws and checks at once, and is answered as many calls as are
 /// allowed. What it then asks for is handed out.
+#[tactic(auto, using(crate::proofs::Bounded::session_lasts))]
 pub fn go_on(
     alloc: Global,
     seat: &mut Seat,
@@ -181,10 +185,11 @@ pub fn go_on(
                 left = more;
             }
         }
-        if seat.inbox.len() < unread {
-            turns = TURNS;
+        // Only the measure needs them: they never run out.
+        turns = if seat.inbox.len() < unread {
+            TURNS
         } else {
-            turns = turns.checked_sub(1).ok_or(Memory)?;
-        }
+            turns - 1
+        };
     }
 }

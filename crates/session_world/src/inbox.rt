@@ -3,7 +3,7 @@
 //! A session takes payloads of at most 1,048,576 bytes, so each of its packets is one piece: MySQL client/server
 //! protocol documentation, "MySQL Packets".
 
-ghost use Rattle.session_world.specs.Inbox.{IsShown, Splits, Takes};
+ghost use Rattle.session_world.specs.Inbox.{IsShown, IsTakenOff, Splits, Takes};
 ghost use Rattle.std.specs.Prelude.{◌≡◌, ◌≤◌, ◌==◌, ◌++◌, [], length, IfOk, OnOk, OnErr};
 
 use lg_base::{Bytes, Memory};
@@ -126,6 +126,7 @@ impl Inbox {
     pub fn take(&mut self, alloc: Global, want: u8) -> Result<Found, Memory>
         ensures ok { IfOk result (Takes want self.old self.new) }
         ensures shorter { length self.new.bytes ≤ length self.old.bytes }
+        ensures taken { IfOk result (IsTakenOff self.old self.new) }
         ensures err { OnErr result (self.new ≡ self.old) }
     {
         let (read, at) = (self.read, self.place);

@@ -6,6 +6,7 @@ ghost use Rattle.session_talk.specs.Logins as login;
 ghost use Rattle.session_talk.specs.Turns.{IsAsked, IsBegun, asked, is_answer};
 ghost use Rattle.session_talk.specs.declared.actions.Ask.TheVariants as ask;
 ghost use Rattle.session_world.specs.Going.{Common, spent};
+ghost use Rattle.session_world.specs.Lasting.{ReadsOrSteps, Steps, StepsOn};
 ghost use Rattle.session_world.specs.Leading.{Acted, IsLookAsked, Leads, Rests};
 ghost use Rattle.session_world.specs.Seats.{SameSeat};
 ghost use Rattle.session_world.specs.declared.calls.Calls.TheVariants as allowed;
@@ -36,6 +37,7 @@ fn act(session: &mut Session, number: u32, input: Input, out: &mut Out) -> Resul
     requires answers { IsTrue (is_answer (talk_of_session session.old) input) }
     requires asked { IsAsked (talk_of_session session.old) input }
     ensures acted { OnOk result (Acted number (next_of session.old) (talk_of_session session.old) input out.old out.new (next_of session.new) (talk_of_session session.new)) }
+    ensures steps { OnOk result (StepsOn input (talk_of_session session.old) (talk_of_session session.new)) }
     ensures asks { IfOk result (λ asks. asks ≡ asked (next_of session.new) (talk_of_session session.new)) }
     ensures begun { OnOk result (IsBegun (talk_of_session session.new)) }
 {
@@ -54,6 +56,7 @@ pub fn read(alloc: Global, seat: &mut Seat, want: u8, out: &mut Out) -> Result<O
     ensures leads { (calls : Calls) (c : Common) → IfOk result (λ next. IfSome next (λ _. Leads seat.new.number seat.new.peer out.new calls c (next_of seat.new.session) (talk_of_session seat.new.session) seat.new.inbox out.old calls c (next_of seat.old.session) (talk_of_session seat.old.session) seat.old.inbox)) }
     ensures rests { (calls : Calls) (c : Common) → IfOk result (λ next. IfNone next (Rests seat.new.number seat.new.peer out.new c (next_of seat.new.session) (talk_of_session seat.new.session) seat.new.inbox out.old calls c (next_of seat.old.session) (talk_of_session seat.old.session) seat.old.inbox)) }
     ensures shorter { length seat.new.inbox.bytes ≤ length seat.old.inbox.bytes }
+    ensures steps { IfOk result (λ next. IfSome next (λ _. ReadsOrSteps seat.old.inbox (talk_of_session seat.old.session) seat.new.inbox (talk_of_session seat.new.session))) }
     ensures unchanged { IfOk result (λ next. IfNone next (seat.new.session ≡ seat.old.session)) }
     ensures asks { IfOk result (λ next. IfSome next (λ asks. asks ≡ asked (next_of seat.new.session) (talk_of_session seat.new.session))) }
     ensures begun { OnOk result (IsBegun (talk_of_session seat.new.session)) }
@@ -104,6 +107,7 @@ pub fn draw(seat: &mut Seat, table: &mut Table, out: &mut Out) -> Result<Ask, Me
     ensures same { SameSeat seat.old seat.new }
     ensures inbox { seat.new.inbox ≡ seat.old.inbox }
     ensures leads { (calls : Calls) → OnOk result (Leads seat.new.number seat.new.peer out.new calls table.new (next_of seat.new.session) (talk_of_session seat.new.session) seat.new.inbox out.old calls table.old (next_of seat.old.session) (talk_of_session seat.old.session) seat.old.inbox) }
+    ensures steps { OnOk result (Steps (talk_of_session seat.old.session) (talk_of_session seat.new.session)) }
     ensures asks { IfOk result (λ asks. asks ≡ asked (next_of seat.new.session) (talk_of_session seat.new.session)) }
     ensures begun { OnOk result (IsBegun (talk_of_session seat.new.session)) }
 {
@@ -124,6 +128,7 @@ pub fn check_evidence(
     ensures same { SameSeat seat.old seat.new }
     ensures inbox { seat.new.inbox ≡ seat.old.inbox }
     ensures leads { (calls : Calls) (c : Common) → OnOk result (Leads seat.new.number seat.new.peer out.new calls c (next_of seat.new.session) (talk_of_session seat.new.session) seat.new.inbox out.old calls c (next_of seat.old.session) (talk_of_session seat.old.session) seat.old.inbox) }
+    ensures steps { OnOk result (Steps (talk_of_session seat.old.session) (talk_of_session seat.new.session)) }
     ensures asks { IfOk result (λ asks. asks ≡ asked (next_of seat.new.session) (talk_of_session seat.new.session)) }
     ensures begun { OnOk result (IsBegun (talk_of_session seat.new.session)) }
 {
@@ -145,6 +150,7 @@ pub fn look(
     ensures same { SameSeat seat.old seat.new }
     ensures inbox { seat.new.inbox ≡ seat.old.inbox }
     ensures leads { (calls : Calls) → calls ≢ allowed.Nothing → OnOk result (Leads seat.new.number seat.new.peer out.new (spent calls) table.new (next_of seat.new.session) (talk_of_session seat.new.session) seat.new.inbox out.old calls table.old (next_of seat.old.session) (talk_of_session seat.old.session) seat.old.inbox) }
+    ensures steps { OnOk result (Steps (talk_of_session seat.old.session) (talk_of_session seat.new.session)) }
     ensures asks { IfOk result (λ asks. asks ≡ asked (next_of seat.new.session) (talk_of_session seat.new.session)) }
     ensures begun { OnOk result (IsBegun (talk_of_session seat.new.session)) }
 {
@@ -166,6 +172,7 @@ pub fn settle(
     ensures same { SameSeat seat.old seat.new }
     ensures inbox { seat.new.inbox ≡ seat.old.inbox }
     ensures leads { (calls : Calls) → calls ≢ allowed.Nothing → OnOk result (Leads seat.new.number seat.new.peer out.new (spent calls) table.new (next_of seat.new.session) (talk_of_session seat.new.session) seat.new.inbox out.old calls table.old (next_of seat.old.session) (talk_of_session seat.old.session) seat.old.inbox) }
+    ensures steps { OnOk result (Steps (talk_of_session seat.old.session) (talk_of_session seat.new.session)) }
     ensures asks { IfOk result (λ asks. asks ≡ asked (next_of seat.new.session) (talk_of_session seat.new.session)) }
     ensures begun { OnOk result (IsBegun (talk_of_session seat.new.session)) }
 {
@@ -202,6 +209,7 @@ pub fn settle_locked(
     ensures same { SameSeat seat.old seat.new }
     ensures inbox { seat.new.inbox ≡ seat.old.inbox }
     ensures leads { (calls : Calls) → calls ≢ allowed.Nothing → OnOk result (Leads seat.new.number seat.new.peer out.new (spent calls) table.new (next_of seat.new.session) (talk_of_session seat.new.session) seat.new.inbox out.old calls table.old (next_of seat.old.session) (talk_of_session seat.old.session) seat.old.inbox) }
+    ensures steps { OnOk result (Steps (talk_of_session seat.old.session) (talk_of_session seat.new.session)) }
     ensures asks { IfOk result (λ asks. asks ≡ asked (next_of seat.new.session) (talk_of_session seat.new.session)) }
     ensures begun { OnOk result (IsBegun (talk_of_session seat.new.session)) }
 {

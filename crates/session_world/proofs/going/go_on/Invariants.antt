@@ -1,6 +1,7 @@
 use Rattle.std.proofs.Common.{◌≡◌, ◌≤◌, ◌+◌, ◌*◌, length}
 use Rattle.session_engine.specs.Standing.{next_of, talk_of_session}
 use Rattle.session_talk.specs.Turns.{IsBegun, asked}
+use Rattle.session_world.specs.Lasting.{Lasts}
 use Rattle.session_world.specs.Leading.{Leads}
 use Rattle.session_world.specs.Seats.{SameSeat}
 use Rattle.session_world.proofs.going.go_on.Given as goal
@@ -12,8 +13,9 @@ invariant-turns l = record {
       l.fn.out l.fn.calls l.fn.table (next_of l.fn.seat.session) (talk_of_session l.fn.seat.session) l.fn.seat.inbox;
   asks : l.asks ≡ asked (next_of l.seat.session) (talk_of_session l.seat.session);
   begun : IsBegun (talk_of_session l.seat.session);
-  turns : l.turns ≤ 7;
+  turns : l.turns ≤ 8;
+  lasts : Lasts l.turns (talk_of_session l.seat.session);
 }
 
 abbrev pub decreases-turns : goal.decreases-turns
-decreases-turns l = 8 * length l.seat.inbox.bytes + l.turns
+decreases-turns l = 9 * length l.seat.inbox.bytes + l.turns
