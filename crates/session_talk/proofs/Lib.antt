@@ -4,6 +4,12 @@ pub mod OverBytes
 pub mod Conversing
 pub mod Settled
 pub mod Running
+pub mod Ending
+pub mod Following
+pub mod Transcribing
+pub mod Heads
+pub mod Transcripts
+pub mod Coming
 pub mod Tying
 pub mod Asking
 pub mod Bounding

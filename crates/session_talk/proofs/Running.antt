@@ -30,7 +30,8 @@ turns s given inputs packets owns later =
     said_owed (first_id s.next s.at given) (heard s.at given) packets owns
     ∙ (ap (after_all_sent (sent_on s given)) later ∙ sent_twice (sent_on s given) (spoken (stands_on s given) inputs) _)
 
-abbrev at : ℕ → Talk → Standing
+-- a session at a talk
+abbrev pub at : ℕ → Talk → Standing
 at next t = record { next = next; at = t }
 
 abbrev Run : (next : ℕ) → Talk → List Input → Type 0
@@ -38,7 +39,7 @@ Run next t inputs = AllAnswer (at next t) inputs →
     owed next t (packets_in inputs) (owns_in inputs)
     ≡ after_all_sent (spoken (at next t) inputs) (owed (stands_after (at next t) inputs).next (stands_after (at next t) inputs).at [] [])
 
-untrue : false ≡ true → ⊥
+pub untrue : false ≡ true → ⊥
 untrue e = absurd (cc)
 
 run : (inputs : List Input) (next : ℕ) (t : Talk) → Run next t inputs

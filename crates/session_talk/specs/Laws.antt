@@ -1,19 +1,24 @@
 -- What holds of every talk.
-use Rattle.std.specs.Prelude.{◌≡◌, IsTrue, ℕ, false, List, [], ◌∷◌, ◌++◌}
+use Rattle.std.specs.Prelude.{◌≡◌, ◌⊎◌, IsTrue, ℕ, false, List, [], ◌∷◌, ◌++◌, Some}
+use Rattle.packet_frame.specs.Packets.{id_after}
 use Rattle.packet_frame.specs.declared.packets.Packet.{Packet}
 use Rattle.factor_chain.specs.declared.credentials.Look.{Look}
 use Rattle.factor_chain.specs.declared.evidence_list.Evidence.{Evidence}
+use Rattle.account_history.specs.declared.entries.Entry.{Entry}
 use Rattle.account_history.specs.declared.entries.Reply.{Reply}
 use Rattle.session_talk.specs.Bounds.{Within}
 use Rattle.session_talk.specs.Conversation.{Conversation, Goes, Move, Sent as Send, Settled}
+use Rattle.session_talk.specs.Given.{Given, IsDone, Reads, Transcribes, all_of, asked_after, begins}
 use Rattle.session_talk.specs.Logins.{session, settling}
 use Rattle.session_talk.specs.Owed as owing
 use Rattle.session_talk.specs.Owed.{Own, Late, Saw, Did, owed}
-use Rattle.session_talk.specs.Runs.{AllAnswer, Standing, owns_in, packets_in, spoken, stands_after}
+use Rattle.session_talk.specs.Runs.{AllAnswer, EachAnswers, Standing, ending_by, owns_in, packets_in, sent_from, spoken, stands_after}
 use Rattle.session_talk.specs.Talk.{Talk}
-use Rattle.session_talk.specs.Turns.{Answers, IsAsked, IsBegun, IsFitting, asked, is_answer}
+use Rattle.session_talk.specs.Transcript.{Open, Peer}
+use Rattle.session_talk.specs.Turns.{Answers, IsAsked, IsBegun, IsFitting, asked, is_answer, is_read, rest, said, wanted_by}
 use Rattle.session_talk.specs.Wired as wiring
 use Rattle.session_talk.specs.Wired.{Stream, wired}
+use Rattle.session_talk.specs.declared.actions.Ask.TheVariants as ask
 use Rattle.session_talk.specs.declared.attempts.Attempting.{Attempting}
 use Rattle.session_talk.specs.declared.inputs.Input.{Input}
 
@@ -45,6 +50,42 @@ RunsAreOwed =
     let after = stands_after s inputs in
     owed s.next s.at (packets_in inputs) (owns_in inputs)
     ≡ owing.after_all_sent (spoken s inputs) (owed after.next after.at [] [])
+
+-- Where reading ends with an input, it is the last one that is answered. Over a list of such inputs a session sends what
+-- is owed for the packets and the answers among them, all of which it has come to, and then what it says of the end,
+-- the first payload with the id behind the one that was wanted; and it stands where that leaves it.
+pub record RunsEndAsOwed : Type 0 where
+  pub ends_last : (s : Standing) (inputs : List Input) → EachAnswers s inputs →
+      AllAnswer s inputs
+      ⊎ ((before : List Input) × (last : Input) × (t : Talk) × (inputs ≡ before ++ last ∷ []) × AllAnswer s before × (ending_by last ≡ Some t))
+  pub is_told : (s : Standing) (before : List Input) (last : Input) (t : Talk) → EachAnswers s (before ++ last ∷ []) → ending_by last ≡ Some t →
+      let o = owed s.next s.at (packets_in before) (owns_in before) in
+      (spoken s (before ++ last ∷ []) ≡ o.sent ++ sent_from (id_after (wanted_by o.next o.at)) (said t))
+      × ((stands_after s (before ++ last ∷ [])).at ≡ rest t)
+      × (o.unread ≡ []) × (o.unused ≡ [])
+
+-- Where a packet is waited for, the bytes and the peer behind them give one input and leave the same bytes, or none
+-- exactly where nothing more comes of them.
+pub record ReadingIsDetermined : Type 0 where
+  pub comes : (peer : Peer) (want : ℕ) (stream : Stream) →
+      IsDone peer (ask.Read want) stream ⊎ ((given : Input) × (left : Stream) × IsTrue (is_read given) × Reads peer want stream given left)
+  pub only_one : (peer : Peer) (want : ℕ) (stream : Stream) (given other : Input) (left others : Stream) →
+      IsTrue (is_read given) → Reads peer want stream given left → IsTrue (is_read other) → Reads peer want stream other others →
+      (given ≡ other) × (left ≡ others)
+  pub none_yet : (peer : Peer) (want : ℕ) (stream : Stream) (given : Input) (left : Stream) →
+      IsDone peer (ask.Read want) stream → IsTrue (is_read given) → Reads peer want stream given left → ⊥
+
+-- What a new session does, over inputs that answer what was asked and that these bytes, this peer and these entries give,
+-- stands in a transcript.
+pub record RunsAreTranscripts : Type 0 where
+  -- of them, once nothing more comes
+  pub whole : (id : ℕ) (peer : Peer) (bytes : List ℕ) (entries : List Entry) (inputs : List Input) (left : Stream) →
+      EachAnswers (begins id) inputs → Given peer (begins id) (all_of bytes) entries inputs left → IsDone peer (asked_after id inputs) left →
+      Transcribes id peer bytes entries inputs
+  -- and, at any time before reading has ended, of the bytes that were read, with the peer open behind them
+  pub so_far : (id : ℕ) (peer : Peer) (bytes : List ℕ) (entries : List Entry) (inputs : List Input) (left : Stream) →
+      AllAnswer (begins id) inputs → Given peer (begins id) (all_of bytes) entries inputs left →
+      (read : List ℕ) × (bytes ≡ read ++ left.bytes) × Transcribes id Open read entries inputs
 
 -- An attempt is a conversation exactly where it is the beginning of a session that ends in a settling and in what is
 -- sent because of it.

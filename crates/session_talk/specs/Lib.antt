@@ -9,3 +9,4 @@ pub mod Bounds
 pub mod Laws
 pub mod Runs
 pub mod Transcript
+pub mod Given

@@ -1,11 +1,12 @@
 -- What a session says over a list of inputs, turn by turn.
-use Rattle.std.specs.Prelude.{ℕ, List, [], ◌∷◌, ◌++◌, IsTrue}
+use Rattle.std.specs.Prelude.{ℕ, List, [], ◌∷◌, ◌++◌, IsTrue, Option, Some, None}
 use Rattle.packet_frame.specs.declared.packets.Packet.{Packet}
+use Rattle.session_talk.specs.declared.ends.SessionEnd.TheVariants as end
 use Rattle.session_talk.specs.declared.inputs.Input.{Input}
 use Rattle.session_talk.specs.declared.inputs.Input.TheVariants as input
 use Rattle.session_talk.specs.Owed.{Own, Drew, Saw, Late, Did, Sent}
 use Rattle.session_talk.specs.Talk.{Talk, Over}
-use Rattle.session_talk.specs.Turns.{IsAsked, first_id, heard, id_behind, id_behind_all, is_answer, rest, said}
+use Rattle.session_talk.specs.Turns.{IsAsked, faulted, first_id, heard, id_behind, id_behind_all, is_answer, rest, said}
 
 -- payloads with their ids, where the first one has an id
 abbrev pub sent_from : (first : ℕ) → List (List ℕ) → List Sent
@@ -54,6 +55,20 @@ abbrev pub AllAnswer : Standing → List Input → Type 0
 AllAnswer s [] = Unit {0}
 AllAnswer s (given ∷ inputs) =
     IsOpen given × IsLive s.at × IsTrue (is_answer s.at given) × IsAsked s.at given × AllAnswer (stands_on s given) inputs
+
+-- the same, where reading may end: an input by which it ends is the last one, since the session has ended with it
+abbrev pub EachAnswers : Standing → List Input → Type 0
+EachAnswers s [] = Unit {0}
+EachAnswers s (given ∷ inputs) =
+    IsLive s.at × IsTrue (is_answer s.at given) × IsAsked s.at given × EachAnswers (stands_on s given) inputs
+
+-- how a session goes on where reading ended: a fault of framing is told, and nothing is said at the peer's end or where
+-- the link failed
+abbrev pub ending_by : Input → Option Talk
+ending_by (input.Frame fault) = Some (faulted fault)
+ending_by (input.End cut) = Some (Over (end.PeerClosed cut))
+ending_by input.LinkFailed = Some (Over end.LinkFault)
+ending_by _ = None
 
 -- the packets among the inputs
 abbrev pub packets_in : List Input → List Packet

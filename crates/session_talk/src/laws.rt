@@ -1,7 +1,7 @@
 //! Laws of the model. Each function does nothing: its contract is the law.
 
 ghost use Rattle.session_talk.specs.Transcript.{WiredIsOwed};
-ghost use Rattle.session_talk.specs.Laws.{AsksAreAnswered, ConversationsAreRuns, OwedGoesOn, RunsAreOwed, SessionsAreBounded, StaleChangesNothing, WhatFitsIsAsked, WiredGoesOn};
+ghost use Rattle.session_talk.specs.Laws.{AsksAreAnswered, ConversationsAreRuns, OwedGoesOn, ReadingIsDetermined, RunsAreOwed, RunsAreTranscripts, RunsEndAsOwed, SessionsAreBounded, StaleChangesNothing, WhatFitsIsAsked, WiredGoesOn};
 
 /// What is owed goes on with further packets and answers, and over bytes however they are cut.
 pub fn what_is_owed_goes_on()
@@ -12,6 +12,12 @@ pub fn what_is_owed_goes_on()
 /// Over inputs that answer what was asked, a session sends what is owed for them, as long as reading hasn't ended.
 pub fn runs_are_owed()
     ensures { RunsAreOwed }
+{}
+
+/// Where reading ends, it is with the last input, and a session sends what is owed for the inputs before it and the
+/// error of a fault of framing, and has ended.
+pub fn runs_end_as_owed()
+    ensures { RunsEndAsOwed }
 {}
 
 /// An attempt is a conversation exactly where it is the beginning of a session that ends in a settling and in what is
@@ -28,6 +34,18 @@ pub fn stale_changes_nothing()
 /// What is owed over bytes is what is owed for the packets among them, and the error of a fault of framing.
 pub fn wired_is_owed()
     ensures { WiredIsOwed }
+{}
+
+/// Where a packet is waited for, bytes and the peer behind them give one input, or none exactly where nothing more comes
+/// of them.
+pub fn reading_is_determined()
+    ensures { ReadingIsDetermined }
+{}
+
+/// What a session sends and how it ends, over the inputs that bytes, a peer behind them and entries of the history
+/// give, stands in their transcript.
+pub fn runs_are_transcripts()
+    ensures { RunsAreTranscripts }
 {}
 
 /// What answers the question that a session asked, answers the session.
