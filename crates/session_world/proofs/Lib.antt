@@ -7,3 +7,9 @@ mod Taking
 mod Happening
 mod Answering
 mod Bounded
+mod Moving
+mod Idling
+mod Legally
+mod Entering
+mod Transcribed
+mod Following

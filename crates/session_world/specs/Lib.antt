@@ -9,3 +9,4 @@ pub mod Seats
 pub mod Begun
 pub mod Sessions
 pub mod Standing
+pub mod Transcripts

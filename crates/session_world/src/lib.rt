@@ -11,6 +11,7 @@ pub mod calls;
 pub mod going;
 pub mod held;
 pub mod inbox;
+pub mod laws;
 mod printing;
 pub mod sessions;
 pub mod state;

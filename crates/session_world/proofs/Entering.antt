@@ -1,0 +1,106 @@
+-- The entries that a session's own side makes go on with its bytes, however they are cut.
+use Rattle.std.proofs.Common.{◌≡◌, ap, sym, subst, ℕ, ◌+◌, ◌-◌, Bool, List, [], ◌∷◌, ◌++◌, length, length-append, arith}
+use Rattle.packet_frame.specs.Front.{Front, Whole, Part, Fault, StaysWith}
+use Rattle.packet_frame.specs.Packets.{id_after}
+use Rattle.packet_frame.specs.declared.packets.FrameFault.{FrameFault}
+use Rattle.packet_frame.specs.declared.packets.FrameFault.TheVariants.{TooLarge, OutOfOrder, Memory as NoMemory}
+use Rattle.packet_frame.specs.declared.packets.Want.TheVariants.{Exactly}
+use Rattle.packet_frame.proofs.Longer.{front-stays}
+use Rattle.account_history.specs.declared.entries.Entry.{Entry}
+use Rattle.session_talk.specs.Laws.{with_more}
+use Rattle.session_talk.specs.Owed.{Own, Drew, Saw, Late, Did}
+use Rattle.session_talk.specs.Talk.{Talk, Says, Hears, Draws, Looks, Checks, Settles, SettlesLocked}
+use Rattle.session_talk.specs.Transcript.{Enters, Reading, after_packet, by_packet, read_of}
+use Rattle.session_talk.specs.Turns.{faulted, id_behind, wanted}
+use Rattle.session_talk.specs.Wired.{Stream, Wired, behind_of, by_front, front_of, most_payload, said_from, stops, wired}
+
+-- what a session's own side was answered makes these entries, over bytes
+abbrev pub EntersOver : (next : ℕ) → Talk → Stream → List Own → List Entry → Type 0
+EntersOver next t stream owns entries = Enters t (read_of next t stream owns).packets owns entries
+
+-- the same, from where a session stands
+abbrev pub EntersFrom : Wired → (more : List ℕ) → List Own → List Entry → Type 0
+EntersFrom w more owns entries = EntersOver w.next w.at (with_more w.unread more) owns entries
+
+stays : (stream : Stream) (more : List ℕ) (want : ℕ) → StaysWith more (front_of want stream) (front_of want (with_more stream more))
+stays stream more want = front-stays (length stream.bytes) most_payload (Exactly want) stream.place stream.bytes more (omega arith)
+
+-- the stream behind a packet, with more bytes
+behind_more : (stream : Stream) (behind more : List ℕ) → behind_of (with_more stream more) (behind ++ more) ≡ with_more (behind_of stream behind) more
+behind_more stream behind more = ap (λ (place : ℕ). record { place = place; bytes = behind ++ more })
+    (same (length-append stream.bytes more) (length-append behind more))
+  where
+    same : length (stream.bytes ++ more) ≡ length stream.bytes + length more → length (behind ++ more) ≡ length behind + length more →
+        stream.place + (length (stream.bytes ++ more) - length (behind ++ more)) ≡ stream.place + (length stream.bytes - length behind)
+    same e f = omega (arith, e, f)
+
+-- where nothing is used and entered, what comes later is all
+all_later : (P : List Own → List Entry → Type 0) (owns others : List Own) (entries later : List Entry) →
+    (owns ≡ []) × (entries ≡ []) → P others later → P (owns ++ others) (entries ++ later)
+all_later P owns others entries later e p =
+    subst (λ (es : List Entry). P (owns ++ others) (es ++ later)) (sym e.1) (subst (λ (os : List Own). P (os ++ others) later) (sym e.0) p)
+
+-- nothing, and nothing
+none : (owns others : List Own) (entries later : List Entry) → (owns ≡ []) × (entries ≡ []) → (others ≡ []) × (later ≡ []) →
+    (owns ++ others ≡ []) × (entries ++ later ≡ [])
+none owns others entries later e f = all_later (λ os es. (os ≡ []) × (es ≡ [])) owns others entries later e f
+
+-- the talk of a fault of framing enters nothing
+faulted_enters : (next : ℕ) (fault : FrameFault) (stream : Stream) (more : List ℕ) (owns others : List Own) (later : List Entry) →
+    EntersFrom (said_from next (faulted fault) stream owns) more others later → (others ≡ []) × (later ≡ [])
+unfolding said_from read_of Enters
+faulted_enters next (TooLarge at) stream more owns others later e = e
+faulted_enters next (OutOfOrder at want got) stream more owns others later e = e
+faulted_enters next NoMemory stream more owns others later e = e
+
+module _ (next : ℕ) (anew : Bool) (k : List ℕ → Talk) (stream : Stream) (more : List ℕ) (owns others : List Own) (entries later : List Entry) where
+  abbrev read_at : Stream → List Own → Front → Reading
+  read_at s os f = by_packet (λ packet behind. after_packet packet (read_of (id_after packet.last) (k packet.payload) behind os)) s f
+
+  abbrev wired_at : Front → Wired
+  wired_at f = by_front (λ last payload behind. wired (id_after last) (k payload) (behind_of stream behind) owns)
+      (stops next (Hears anew k) stream owns) (λ fault. said_from (id_after (wanted anew next)) (faulted fault) stream owns) f
+
+  abbrev Again : Type 0
+  Again = (last : ℕ) (payload : List ℕ) (s : Stream) → EntersOver (id_after last) (k payload) s owns entries →
+      EntersFrom (wired (id_after last) (k payload) s owns) more others later →
+      EntersOver (id_after last) (k payload) (with_more s more) (owns ++ others) (entries ++ later)
+
+  abbrev Longer : Front → Type 0
+  Longer f = Enters (Hears anew k) (read_at (with_more stream more) (owns ++ others) f).packets (owns ++ others) (entries ++ later)
+
+  by_shown : Again → (f : Front) → StaysWith more f (front_of (wanted anew next) (with_more stream more)) →
+      Enters (Hears anew k) (read_at stream owns f).packets owns entries → EntersFrom (wired_at f) more others later →
+      Longer (front_of (wanted anew next) (with_more stream more))
+  unfolding wired read_of Enters
+  by_shown again (Whole first last payload behind) e entered then_entered =
+      subst Longer (sym e)
+      (subst (λ (s : Stream). EntersOver (id_after last) (k payload) s (owns ++ others) (entries ++ later)) (sym (behind_more stream behind more))
+      (again last payload (behind_of stream behind) entered then_entered))
+  by_shown again (Part missing) e entered then_entered =
+      all_later (λ os es. EntersOver next (Hears anew k) (with_more stream more) os es) owns others entries later entered then_entered
+  by_shown again (Fault fault) e entered then_entered =
+      subst Longer (sym e) (none owns others entries later entered (faulted_enters (id_after (wanted anew next)) fault stream more owns others later then_entered))
+
+pub enters_goes_on : (next : ℕ) (t : Talk) (stream : Stream) (more : List ℕ) (owns others : List Own) (entries later : List Entry) →
+    EntersOver next t stream owns entries → EntersFrom (wired next t stream owns) more others later →
+    EntersOver next t (with_more stream more) (owns ++ others) (entries ++ later)
+unfolding wired read_of Enters
+enters_goes_on next (Says payload t) stream more os us es fs e f = enters_goes_on (id_behind next payload) t stream more os us es fs e f
+enters_goes_on next (Hears anew k) stream more os us es fs e f =
+    by_shown next anew k stream more os us es fs (λ last payload s. enters_goes_on (id_after last) (k payload) s more os us es fs)
+    (front_of (wanted anew next) stream) (stays stream more (wanted anew next)) e f
+enters_goes_on next (Draws first k) stream more (Drew nonce ∷ os) us es fs e f = enters_goes_on next (k nonce) stream more os us es fs e f
+enters_goes_on next (Looks again who k) stream more (Saw look ∷ os) us (entry ∷ es) fs e f =
+    (e.0, enters_goes_on next (k look) stream more os us es fs e.1 f)
+enters_goes_on next (Looks again who k) stream more (Saw look ∷ os) us [] fs e f = absurd (cc)
+enters_goes_on next (Checks look evidences t) stream more os us es fs e f = enters_goes_on next t stream more os us es fs e f
+enters_goes_on next (Settles checked flags stale k) stream more (Late ∷ os) us es fs e f = enters_goes_on next stale stream more os us es fs e f
+enters_goes_on next (Settles checked flags stale k) stream more (Did reply ∷ os) us (entry ∷ es) fs e f =
+    (e.0, e.1, enters_goes_on next (k reply) stream more os us es fs e.2 f)
+enters_goes_on next (Settles checked flags stale k) stream more (Did reply ∷ os) us [] fs e f = absurd (cc)
+enters_goes_on next (SettlesLocked user evidences flags k) stream more (Did reply ∷ os) us (entry ∷ es) fs e f =
+    (e.0, e.1, enters_goes_on next (k reply) stream more os us es fs e.2 f)
+enters_goes_on next (SettlesLocked user evidences flags k) stream more (Did reply ∷ os) us [] fs e f = absurd (cc)
+enters_goes_on next t stream more os us es fs e f =
+    all_later (λ owns entries. EntersOver next t (with_more stream more) owns entries) os us es fs e f

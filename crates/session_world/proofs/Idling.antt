@@ -1,0 +1,112 @@
+-- An event that prints that it is idle changes nothing.
+use Rattle.std.proofs.Common.{◌≡◌, refl, ap, sym, ◌∙◌, ℕ, ◌+◌, Bool, true, false, if◌then◌else◌, List, [], ◌∷◌, arith}
+use Rattle.packet_frame.specs.Front.{Front, Whole, Part, Fault}
+use Rattle.packet_frame.specs.Packets.{id_after}
+use Rattle.packet_frame.specs.declared.packets.FrameFault.{FrameFault}
+use Rattle.packet_frame.specs.declared.packets.FrameFault.TheVariants.{TooLarge, OutOfOrder, Memory as NoMemory}
+use Rattle.account_history.specs.declared.entries.Entry.TheVariants.{Observed, Attempted}
+use Rattle.script_text.specs.declared.event.Event.{Event}
+use Rattle.session_talk.specs.Talk.{Talk, Says, Hears, Draws, Looks, Checks, Settles, SettlesLocked, Over}
+use Rattle.session_talk.specs.Turns.{faulted, wanted}
+use Rattle.session_talk.specs.Wired.{Stream, behind_of, front_of}
+use Rattle.session_world.specs.declared.calls.Calls.{Calls}
+use Rattle.session_world.specs.declared.calls.Calls.TheVariants.{Nothing, One, All}
+use Rattle.session_world.specs.declared.calls.Peer.{Peer}
+use Rattle.session_world.specs.declared.calls.Peer.TheVariants.{Open, Closed, Failed}
+use Rattle.session_world.specs.Drawing.{drawn_nonce}
+use Rattle.session_world.specs.Going.{Adds, Common, Ends, Gone, Idle, Line, Sends, Stale, by_front, closing, going, if_allowed, is_stale, unread_by, with_draw}
+use Rattle.session_world.specs.Printing.{line_text, lines_text, look_line, attempt_line}
+use Rattle.session_world.specs.Transcripts.{GoesOn, IdleChangesNothing, IsIdle, Move, Sets, move, moved}
+use Rattle.session_world.specs.Worlds.{Happened, World}
+use Rattle.session_world.proofs.Moving.{moves_are, of_event}
+
+-- the first line isn't that nothing was to be done
+abbrev pub AreBusy : List Line → Type 0
+AreBusy [] = Unit {0}
+AreBusy (Sends sent ∷ lines) = Unit {0}
+AreBusy (Adds number entry ∷ lines) = Unit {0}
+AreBusy (Stale ∷ lines) = Unit {0}
+AreBusy (Ends how ∷ lines) = Unit {0}
+AreBusy (Idle ∷ lines) = ⊥
+
+closing_busy : (c : Common) (next : ℕ) (fault : FrameFault) (stream : Stream) → AreBusy (closing c next (faulted fault) stream).lines
+unfolding closing
+closing_busy c next (TooLarge at) stream = tt
+closing_busy c next (OutOfOrder at want got) stream = tt
+closing_busy c next NoMemory stream = tt
+
+unread_busy : (peer : Peer) (c : Common) (next : ℕ) (t : Talk) (stream : Stream) → AreBusy (unread_by peer c next t stream).lines
+unread_busy Open c next t stream = tt
+unread_busy Closed c next t stream = tt
+unread_busy Failed c next t stream = tt
+
+-- what is allowed and what is done otherwise, and either of two
+pub if_allowed_is : (P : Gone → Type 0) (calls : Calls) (done otherwise : Gone) → P done → P otherwise → P (if_allowed calls done otherwise)
+if_allowed_is P Nothing done otherwise p q = q
+if_allowed_is P One done otherwise p q = p
+if_allowed_is P All done otherwise p q = p
+
+pub if_is : (P : Gone → Type 0) (test : Bool) (done otherwise : Gone) → P done → P otherwise → P (if test then done else otherwise)
+if_is P true done otherwise p q = p
+if_is P false done otherwise p q = q
+
+abbrev IsBusy : Gone → Type 0
+IsBusy g = AreBusy g.lines
+
+going_busy : (peer : Peer) (calls : Calls) (c : Common) (next : ℕ) (t : Talk) (stream : Stream) → IsBusy (going peer calls c next t stream)
+unfolding going
+going_busy peer calls c next (Says payload t) stream = tt
+going_busy peer calls c next (Hears anew k) stream =
+    by_shown (λ last payload s. going_busy peer calls c (id_after last) (k payload) s) (front_of (wanted anew next) stream)
+  where
+    by_shown : ((last : ℕ) (payload : List ℕ) (s : Stream) → IsBusy (going peer calls c (id_after last) (k payload) s)) → (f : Front) →
+        IsBusy (by_front (λ last payload behind. going peer calls c (id_after last) (k payload) (behind_of stream behind))
+        (unread_by peer c next (Hears anew k) stream) (λ fault. closing c (id_after (wanted anew next)) (faulted fault) stream) f)
+    by_shown again (Whole first last payload behind) = again last payload (behind_of stream behind)
+    by_shown again (Part missing) = unread_busy peer c next (Hears anew k) stream
+    by_shown again (Fault fault) = closing_busy c (id_after (wanted anew next)) fault stream
+going_busy peer calls c next (Draws first k) stream = going_busy peer calls (with_draw c) next (k (drawn_nonce (c.drawn + 1))) stream
+going_busy peer calls c next (Looks again who k) stream = if_allowed_is IsBusy calls _ _ tt tt
+going_busy peer calls c next (Checks look evidences t) stream = going_busy peer calls c next t stream
+going_busy peer calls c next (Settles checked flags stale k) stream =
+    if_allowed_is IsBusy calls _ _ (if_is IsBusy (is_stale c checked.look) _ _ tt tt) tt
+going_busy peer calls c next (SettlesLocked user evidences flags k) stream = if_allowed_is IsBusy calls _ _ tt tt
+going_busy peer calls c next (Over how) stream = tt
+
+abbrev IsBusyMove : Move → Type 0
+IsBusyMove (Sets reading) = Unit {0}
+IsBusyMove (GoesOn number peer bytes g) = IsBusy g
+IsBusyMove (IsIdle number) = Unit {0}
+
+move_busy : (w : World) (event : Event) → IsBusyMove (move w event)
+move_busy w event = of_event w IsBusyMove (record {
+  sets = λ reading. tt;
+  idles = λ number. tt;
+  opens = λ number e. going_busy _ _ _ _ _ _;
+  goes = λ number place peer calls bytes e ready. going_busy _ _ _ _ _ _;
+}) event
+
+-- no other line begins as an idle one, with the byte 105
+abbrev first_byte : List ℕ → ℕ
+first_byte [] = 0
+first_byte (b ∷ bytes) = b
+
+not_idle : (session number : ℕ) (lines : List Line) → AreBusy lines → lines_text session lines ≡ lines_text number (Idle ∷ []) → ⊥
+unfolding line_text look_line attempt_line
+not_idle session number [] busy e = let same : 0 ≡ 105 = ap first_byte e in absurd (omega (arith, same))
+not_idle session number (Sends sent ∷ lines) busy e = let same : 115 ≡ 105 = ap first_byte e in absurd (omega (arith, same))
+not_idle session number (Adds k (Observed who look) ∷ lines) busy e = let same : 101 ≡ 105 = ap first_byte e in absurd (omega (arith, same))
+not_idle session number (Adds k (Attempted attempt) ∷ lines) busy e = let same : 101 ≡ 105 = ap first_byte e in absurd (omega (arith, same))
+not_idle session number (Stale ∷ lines) busy e = let same : 115 ≡ 105 = ap first_byte e in absurd (omega (arith, same))
+not_idle session number (Ends how ∷ lines) busy e = let same : 101 ≡ 105 = ap first_byte e in absurd (omega (arith, same))
+not_idle session number (Idle ∷ lines) busy e = absurd busy
+
+idle_move : (w : World) (m : Move) (number : ℕ) → IsBusyMove m → (moved w m).text ≡ lines_text number (Idle ∷ []) → (moved w m).world ≡ w
+idle_move w (Sets reading) number busy e = absurd (not_idle 0 number [] tt e)
+idle_move w (GoesOn session peer bytes g) number busy e = absurd (not_idle session number g.lines busy e)
+idle_move w (IsIdle session) number busy e = refl
+
+pub idle_changes_nothing : IdleChangesNothing
+idle_changes_nothing w event number e =
+    ap (λ (h : Happened). h.world) (moves_are w event)
+    ∙ idle_move w (move w event) number (move_busy w event) (sym (ap (λ (h : Happened). h.text) (moves_are w event)) ∙ e)

@@ -1,0 +1,189 @@
+-- After any events the history is legal, and its entries are those that are printed.
+use Rattle.std.proofs.Common.{◌≡◌, refl, ap, sym, ◌∙◌, subst, ℕ, ◌+◌, List, [], ◌∷◌, ◌++◌, length, length-append, append-nil, append_assoc, arith}
+use Rattle.packet_frame.specs.Front.{Front, Whole, Part, Fault}
+use Rattle.packet_frame.specs.Packets.{id_after}
+use Rattle.packet_frame.specs.declared.packets.FrameFault.{FrameFault}
+use Rattle.packet_frame.specs.declared.packets.FrameFault.TheVariants.{TooLarge, OutOfOrder, Memory as NoMemory}
+use Rattle.account_history.proofs.OneMore.{history-noted}
+use Rattle.account_history.specs.Histories.{history, noted}
+use Rattle.account_history.specs.Legal.{IsAnswered, IsLegal}
+use Rattle.account_history.specs.declared.entries.Entry.{Entry}
+use Rattle.account_history.specs.declared.entries.Entry.TheVariants.{Observed}
+use Rattle.account_history.specs.declared.entries.Log.{Log}
+use Rattle.script_text.specs.declared.event.Event.{Event}
+use Rattle.session_talk.specs.Talk.{Talk, Says, Hears, Draws, Looks, Checks, Settles, SettlesLocked, Over}
+use Rattle.session_talk.specs.Turns.{faulted, id_behind, wanted}
+use Rattle.session_talk.specs.Wired.{Stream, behind_of, front_of}
+use Rattle.session_world.specs.declared.calls.Calls.{Calls}
+use Rattle.session_world.specs.declared.calls.Peer.{Peer}
+use Rattle.session_world.specs.declared.calls.Peer.TheVariants.{Open, Closed, Failed}
+use Rattle.session_world.specs.Drawing.{drawn_nonce}
+use Rattle.session_world.specs.Going.{Adds, Common, Ends, Gone, Idle, Line, Sends, Stale, attempted, by_front, closing, going, is_stale, replied, seen, spent, unread_by, with_draw, with_entry}
+use Rattle.session_world.specs.Transcripts.{HistoriesAreLegal, Move, Numbered, all_lines, entries_in, lines_in, move, moved, numbered, numbered_in}
+use Rattle.session_world.specs.Worlds.{Happened, World, after_all, happens, new_world}
+use Rattle.session_world.proofs.Idling.{if_allowed_is, if_is}
+use Rattle.session_world.proofs.Moving.{moves_are, of_event}
+
+-- a log with the entries of these lines, by their numbers, each answered by what is before it
+pub record Extends (before : Log) (lines : List Line) (after : Log) : Type 0 where
+  pub starts : after.start ≡ before.start
+  pub entries : after.entries ≡ before.entries ++ entries_in lines
+  pub numbers : numbered_in lines ≡ numbered (length before.entries + 1) (entries_in lines)
+  pub legal : IsLegal (history before) → IsLegal (history after)
+
+-- lines without an entry
+unchanged : (log : Log) (lines : List Line) → entries_in lines ≡ [] → numbered_in lines ≡ [] → Extends log lines log
+unchanged log lines e n = record {
+  starts = refl;
+  entries = sym (append-nil log.entries) ∙ ap (λ (more : List Entry). log.entries ++ more) (sym e);
+  numbers = n ∙ ap (λ (more : List Entry). numbered (length log.entries + 1) more) (sym e);
+  legal = λ l. l;
+}
+
+-- other lines with the same entries
+with_same : (before : Log) (lines others : List Line) (after : Log) → entries_in others ≡ entries_in lines → numbered_in others ≡ numbered_in lines →
+    Extends before lines after → Extends before others after
+with_same before lines others after e n x = record {
+  starts = x.starts;
+  entries = x.entries ∙ ap (λ (more : List Entry). before.entries ++ more) (sym e);
+  numbers = n ∙ (x.numbers ∙ ap (λ (more : List Entry). numbered (length before.entries + 1) more) (sym e));
+  legal = x.legal;
+}
+
+-- an entry first
+one : (log : Log) (entry : Entry) (lines : List Line) (after : Log) → IsAnswered (history log) entry → Extends (noted log entry) lines after →
+    Extends log (Adds (length log.entries + 1) entry ∷ lines) after
+one log entry lines after answered x = record {
+  starts = x.starts;
+  entries = x.entries ∙ append_assoc log.entries (entry ∷ []) (entries_in lines);
+  numbers = ap (λ (more : List Numbered). record { number = length log.entries + 1; entry = entry } ∷ more)
+      (x.numbers ∙ ap (λ (n : ℕ). numbered (n + 1) (entries_in lines)) (length-append log.entries (entry ∷ [])));
+  legal = λ l. x.legal (subst IsLegal (sym (history-noted log entry)) (l, answered));
+}
+
+abbrev Writes : Common → Gone → Type 0
+Writes c g = Extends c.log g.lines g.common.log
+
+closing_writes : (c : Common) (next : ℕ) (fault : FrameFault) (stream : Stream) → Writes c (closing c next (faulted fault) stream)
+unfolding closing
+closing_writes c next (TooLarge at) stream = unchanged c.log _ refl refl
+closing_writes c next (OutOfOrder at want got) stream = unchanged c.log _ refl refl
+closing_writes c next NoMemory stream = unchanged c.log _ refl refl
+
+unread_writes : (peer : Peer) (c : Common) (next : ℕ) (t : Talk) (stream : Stream) → Writes c (unread_by peer c next t stream)
+unread_writes Open c next t stream = unchanged c.log [] refl refl
+unread_writes Closed c next t stream = unchanged c.log _ refl refl
+unread_writes Failed c next t stream = unchanged c.log _ refl refl
+
+going_writes : (peer : Peer) (calls : Calls) (c : Common) (next : ℕ) (t : Talk) (stream : Stream) → Writes c (going peer calls c next t stream)
+unfolding going
+going_writes peer calls c next (Says payload t) stream = with_same c.log _ _ _ refl refl (going_writes peer calls c (id_behind next payload) t stream)
+going_writes peer calls c next (Hears anew k) stream =
+    by_shown (λ last payload s. going_writes peer calls c (id_after last) (k payload) s) (front_of (wanted anew next) stream)
+  where
+    by_shown : ((last : ℕ) (payload : List ℕ) (s : Stream) → Writes c (going peer calls c (id_after last) (k payload) s)) → (f : Front) →
+        Writes c (by_front (λ last payload behind. going peer calls c (id_after last) (k payload) (behind_of stream behind))
+        (unread_by peer c next (Hears anew k) stream) (λ fault. closing c (id_after (wanted anew next)) (faulted fault) stream) f)
+    by_shown again (Whole first last payload behind) = again last payload (behind_of stream behind)
+    by_shown again (Part missing) = unread_writes peer c next (Hears anew k) stream
+    by_shown again (Fault fault) = closing_writes c (id_after (wanted anew next)) fault stream
+going_writes peer calls c next (Draws first k) stream = going_writes peer calls (with_draw c) next (k (drawn_nonce (c.drawn + 1))) stream
+going_writes peer calls c next (Looks again who k) stream =
+    if_allowed_is (Writes c) calls _ _
+    (one c.log (Observed who (seen c who)) _ _ refl (going_writes peer (spent calls) (with_entry c (Observed who (seen c who))) next (k (seen c who)) stream))
+    (unchanged c.log [] refl refl)
+going_writes peer calls c next (Checks look evidences t) stream = going_writes peer calls c next t stream
+going_writes peer calls c next (Settles checked flags stale k) stream =
+    if_allowed_is (Writes c) calls _ _
+    (if_is (Writes c) (is_stale c checked.look) _ _
+    (with_same c.log _ _ _ refl refl (going_writes peer (spent calls) c next stale stream))
+    (one c.log (attempted c checked.look.user checked.evidences flags) _ _ refl
+    (going_writes peer (spent calls) (with_entry c (attempted c checked.look.user checked.evidences flags)) next (k (replied c checked.look.user checked.evidences flags)) stream)))
+    (unchanged c.log [] refl refl)
+going_writes peer calls c next (SettlesLocked user evidences flags k) stream =
+    if_allowed_is (Writes c) calls _ _
+    (one c.log (attempted c user evidences flags) _ _ refl
+    (going_writes peer (spent calls) (with_entry c (attempted c user evidences flags)) next (k (replied c user evidences flags)) stream))
+    (unchanged c.log [] refl refl)
+going_writes peer calls c next (Over how) stream = unchanged c.log _ refl refl
+
+-- ## Over events
+
+pub entries_append : (lines more : List Line) → entries_in (lines ++ more) ≡ entries_in lines ++ entries_in more
+entries_append [] more = refl
+entries_append (Sends sent ∷ lines) more = entries_append lines more
+entries_append (Adds number entry ∷ lines) more = ap (λ (rest : List Entry). entry ∷ rest) (entries_append lines more)
+entries_append (Stale ∷ lines) more = entries_append lines more
+entries_append (Ends how ∷ lines) more = entries_append lines more
+entries_append (Idle ∷ lines) more = entries_append lines more
+
+numbered_in_append : (lines more : List Line) → numbered_in (lines ++ more) ≡ numbered_in lines ++ numbered_in more
+numbered_in_append [] more = refl
+numbered_in_append (Sends sent ∷ lines) more = numbered_in_append lines more
+numbered_in_append (Adds number entry ∷ lines) more =
+    ap (λ (rest : List Numbered). record { number = number; entry = entry } ∷ rest) (numbered_in_append lines more)
+numbered_in_append (Stale ∷ lines) more = numbered_in_append lines more
+numbered_in_append (Ends how ∷ lines) more = numbered_in_append lines more
+numbered_in_append (Idle ∷ lines) more = numbered_in_append lines more
+
+numbered_append : (first : ℕ) (entries more : List Entry) → numbered first (entries ++ more) ≡ numbered first entries ++ numbered (first + length entries) more
+numbered_append first [] more = ap (λ (n : ℕ). numbered n more) (let same : first ≡ first + 0 = omega arith in same)
+numbered_append first (entry ∷ entries) more =
+    ap (λ (rest : List Numbered). record { number = first; entry = entry } ∷ rest)
+    (numbered_append (first + 1) entries more
+    ∙ ap (λ (n : ℕ). numbered (first + 1) entries ++ numbered n more) (moved_on first entries))
+  where
+    moved_on : (n : ℕ) (es : List Entry) → n + 1 + length es ≡ n + length (entry ∷ es)
+    moved_on n es = omega arith
+
+both : (before : Log) (lines : List Line) (between : Log) (more : List Line) (after : Log) →
+    Extends before lines between → Extends between more after → Extends before (lines ++ more) after
+both before lines between more after x y = record {
+  starts = y.starts ∙ x.starts;
+  entries = y.entries
+      ∙ ap (λ (es : List Entry). es ++ entries_in more) x.entries
+      ∙ append_assoc before.entries (entries_in lines) (entries_in more)
+      ∙ ap (λ (es : List Entry). before.entries ++ es) (sym (entries_append lines more));
+  numbers = numbered_in_append lines more
+      ∙ ap (λ (ns : List Numbered). ns ++ numbered_in more) x.numbers
+      ∙ ap (λ (ns : List Numbered). numbered (length before.entries + 1) (entries_in lines) ++ ns) (y.numbers ∙ ap (λ (n : ℕ). numbered n (entries_in more)) count)
+      ∙ sym (numbered_append (length before.entries + 1) (entries_in lines) (entries_in more))
+      ∙ ap (λ (es : List Entry). numbered (length before.entries + 1) es) (sym (entries_append lines more));
+  legal = λ l. y.legal (x.legal l);
+}
+  where
+    counted : (es fs : List Entry) → between.entries ≡ es ++ fs → length between.entries + 1 ≡ length es + 1 + length fs
+    counted es fs e = let long : length between.entries ≡ length (es ++ fs) = ap (λ (gs : List Entry). length gs) e in
+        let whole : length (es ++ fs) ≡ length es + length fs = length-append es fs in omega (arith, long, whole)
+
+    count : length between.entries + 1 ≡ length before.entries + 1 + length (entries_in lines)
+    count = counted before.entries (entries_in lines) x.entries
+
+abbrev MoveWrites : World → Move → Type 0
+MoveWrites w m = Extends w.common.log (lines_in m) (moved w m).world.common.log
+
+event_writes : (w : World) (event : Event) → Extends w.common.log (lines_in (move w event)) (happens w event).world.common.log
+event_writes w event =
+    subst (λ (h : Happened). Extends w.common.log (lines_in (move w event)) h.world.common.log) (sym (moves_are w event))
+    (of_event w (MoveWrites w) (record {
+      sets = λ reading. unchanged w.common.log [] refl refl;
+      idles = λ number. unchanged w.common.log (Idle ∷ []) refl refl;
+      opens = λ number e. going_writes _ _ w.common _ _ _;
+      goes = λ number place peer calls bytes e ready. going_writes peer calls w.common place.next place.at _;
+    }) event)
+
+events_write : (w : World) (events : List Event) → Extends w.common.log (all_lines w events) (after_all w events).common.log
+events_write w [] = unchanged w.common.log [] refl refl
+events_write w (first ∷ events) =
+    both w.common.log (lines_in (move w first)) (happens w first).world.common.log (all_lines (happens w first).world events) _
+    (event_writes w first) (events_write (happens w first).world events)
+
+pub histories_are_legal : HistoriesAreLegal
+histories_are_legal openings settings events =
+    let w : World = new_world openings settings in
+    let x : Extends w.common.log (all_lines w events) (after_all w events).common.log = events_write w events in
+    record {
+      starts = x.starts;
+      printed = x.numbers ∙ ap (λ (es : List Entry). numbered 1 es) (sym x.entries);
+      legal = x.legal tt;
+    }

@@ -1,0 +1,128 @@
+-- What events come to.
+use Rattle.std.proofs.Common.{◌≡◌, refl, ap, subst, ℕ, Bool, true, false, if◌then◌else◌, List, [], append-nil, Option, Some, None}
+use Rattle.script_text.specs.declared.event.Event.{Event}
+use Rattle.script_text.specs.declared.event.Event.TheVariants as event
+use Rattle.session_talk.specs.Laws.{with_more}
+use Rattle.session_talk.specs.Logins.{session}
+use Rattle.session_talk.specs.Talk.{Talk, Looks, Settles, SettlesLocked, Over}
+use Rattle.session_talk.specs.Transcript.{ended}
+use Rattle.session_talk.specs.Wired.{Stream}
+use Rattle.session_world.specs.declared.calls.Calls.{Calls}
+use Rattle.session_world.specs.declared.calls.Calls.TheVariants.{Nothing, One, All}
+use Rattle.session_world.specs.declared.calls.Peer.{Peer}
+use Rattle.session_world.specs.declared.calls.Peer.TheVariants.{Open, Closed, Failed}
+use Rattle.session_world.specs.Going.{Gone, going}
+use Rattle.session_world.specs.Transcripts.{GoesOn, IsIdle, Move, Sets, as_told, calling, leaving, move, moved, opening, sending}
+use Rattle.session_world.specs.Worlds.{Place, World, called, goes, happens, idle, is_there, left, no_bytes, opened, sent, waits}
+
+-- ## What happens
+
+module _ (w : World) where
+  chosen : (session : ℕ) (peer : Peer) (bytes : List ℕ) (g : Gone) (may : Bool) →
+      (if may then goes w session peer g else idle w session) ≡ moved w (if may then GoesOn session peer bytes g else IsIdle session)
+  chosen session peer bytes g true = refl
+  chosen session peer bytes g false = refl
+
+  opened_is : (number : ℕ) (found : Option Place) → opened w number found ≡ moved w (opening w number found)
+  opened_is number None = refl
+  opened_is number (Some place) = refl
+
+  called_is : (number : ℕ) (calls : Calls) (found : Option Place) → called w number calls found ≡ moved w (calling w number calls found)
+  called_is number calls None = refl
+  called_is number calls (Some place) = chosen number place.peer [] _ (waits place.at)
+
+  sent_is : (number : ℕ) (bytes : List ℕ) (found : Option Place) → sent w number bytes found ≡ moved w (sending w number bytes found)
+  sent_is number bytes None = refl
+  sent_is number bytes (Some place) = chosen number place.peer bytes _ (is_there place.at place.peer)
+
+  left_is : (number : ℕ) (peer : Peer) (found : Option Place) → left w number peer found ≡ moved w (leaving w number peer found)
+  left_is number peer None = refl
+  left_is number peer (Some place) = chosen number peer [] _ (is_there place.at place.peer)
+
+pub moves_are : (w : World) (event : Event) → happens w event ≡ moved w (move w event)
+moves_are w (event.Clock reading) = refl
+moves_are w (event.Open number) = opened_is w number (w.places number)
+moves_are w (event.FromPeer number bytes) = sent_is w number bytes (w.places number)
+moves_are w (event.Step number) = called_is w number One (w.places number)
+moves_are w (event.Run number) = called_is w number All (w.places number)
+moves_are w (event.Close number) = left_is w number Closed (w.places number)
+moves_are w (event.Cut number) = left_is w number Failed (w.places number)
+
+-- ## What holds of each
+
+-- a session waits for more: bytes, the end of its peer, or a call
+abbrev pub Waits : Place → Type 0
+Waits place = (stream : Stream) → ended (as_told place.peer) place.at stream ≡ None
+
+more_nothing : (stream : Stream) → with_more stream [] ≡ stream
+more_nothing stream = ap (λ (bytes : List ℕ). record { place = stream.place; bytes = bytes }) (append-nil stream.bytes)
+
+waits_called : (peer : Peer) (at : Talk) → waits at ≡ true → (stream : Stream) → ended (as_told peer) at stream ≡ None
+waits_called Open (Looks again who k) e stream = refl
+waits_called Closed (Looks again who k) e stream = refl
+waits_called Failed (Looks again who k) e stream = refl
+waits_called Open (Settles checked flags stale k) e stream = refl
+waits_called Closed (Settles checked flags stale k) e stream = refl
+waits_called Failed (Settles checked flags stale k) e stream = refl
+waits_called Open (SettlesLocked user evidences flags k) e stream = refl
+waits_called Closed (SettlesLocked user evidences flags k) e stream = refl
+waits_called Failed (SettlesLocked user evidences flags k) e stream = refl
+waits_called _ _ e stream = absurd (cc)
+
+waits_there : (peer : Peer) (at : Talk) → is_there at peer ≡ true → (stream : Stream) → ended (as_told peer) at stream ≡ None
+waits_there Open (Over how) e stream = absurd (cc)
+waits_there Closed (Over how) e stream = absurd (cc)
+waits_there Failed (Over how) e stream = absurd (cc)
+waits_there Closed _ e stream = absurd (cc)
+waits_there Failed _ e stream = absurd (cc)
+waits_there Open _ e stream = refl
+
+-- what holds of an event's move, where it holds of each kind
+pub record Each (w : World) (P : Move → Type 0) : Type 0 where
+  pub sets : (reading : ℕ) → P (Sets reading)
+  pub idles : (number : ℕ) → P (IsIdle number)
+  pub opens : (number : ℕ) → w.places number ≡ None → P (GoesOn number Open [] (going Open Nothing w.common 0 (session number) no_bytes))
+  pub goes : (number : ℕ) (place : Place) (peer : Peer) (calls : Calls) (bytes : List ℕ) → w.places number ≡ Some place → Waits place →
+      P (GoesOn number peer bytes (going peer calls w.common place.next place.at (with_more place.unread bytes)))
+
+module _ (w : World) (P : Move → Type 0) (each : Each w P) where
+  either : (number : ℕ) (peer : Peer) (bytes : List ℕ) (g : Gone) (may : Bool) → (may ≡ true → P (GoesOn number peer bytes g)) →
+      P (if may then GoesOn number peer bytes g else IsIdle number)
+  either number peer bytes g true goes_on = goes_on refl
+  either number peer bytes g false goes_on = each.idles number
+
+  without_more : (number : ℕ) (place : Place) (peer : Peer) (calls : Calls) → w.places number ≡ Some place → Waits place →
+      P (GoesOn number peer [] (going peer calls w.common place.next place.at place.unread))
+  without_more number place peer calls e ready =
+      subst (λ (s : Stream). P (GoesOn number peer [] (going peer calls w.common place.next place.at s))) (more_nothing place.unread)
+      (each.goes number place peer calls [] e ready)
+
+  of_opening : (number : ℕ) (found : Option Place) → w.places number ≡ found → P (opening w number found)
+  of_opening number None e = each.opens number e
+  of_opening number (Some place) e = each.idles number
+
+  of_calling : (number : ℕ) (calls : Calls) (found : Option Place) → w.places number ≡ found → P (calling w number calls found)
+  of_calling number calls None e = each.idles number
+  of_calling number calls (Some place) e =
+      either number place.peer [] _ (waits place.at) (λ may. without_more number place place.peer calls e (waits_called place.peer place.at may))
+
+  of_sending : (number : ℕ) (bytes : List ℕ) (found : Option Place) → w.places number ≡ found → P (sending w number bytes found)
+  of_sending number bytes None e = each.idles number
+  of_sending number bytes (Some place) e =
+      either number place.peer bytes _ (is_there place.at place.peer)
+      (λ may. each.goes number place place.peer Nothing bytes e (waits_there place.peer place.at may))
+
+  of_leaving : (number : ℕ) (peer : Peer) (found : Option Place) → w.places number ≡ found → P (leaving w number peer found)
+  of_leaving number peer None e = each.idles number
+  of_leaving number peer (Some place) e =
+      either number peer [] _ (is_there place.at place.peer)
+      (λ may. without_more number place peer Nothing e (waits_there place.peer place.at may))
+
+  pub of_event : (event : Event) → P (move w event)
+  of_event (event.Clock reading) = each.sets reading
+  of_event (event.Open number) = of_opening number (w.places number) refl
+  of_event (event.FromPeer number bytes) = of_sending number bytes (w.places number) refl
+  of_event (event.Step number) = of_calling number One (w.places number) refl
+  of_event (event.Run number) = of_calling number All (w.places number) refl
+  of_event (event.Close number) = of_leaving number Closed (w.places number) refl
+  of_event (event.Cut number) = of_leaving number Failed (w.places number) refl
