@@ -14,5 +14,6 @@ bench:
 	@bench/crypt
 	@cd crates/loginctl && rt run -- frames < /dev/null
 	@bench/frames
+	@bench/replay
 	@cd crates/stmt_probe && rt run < stdin > /dev/null
 	@bench/statements

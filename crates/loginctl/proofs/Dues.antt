@@ -1,24 +1,26 @@
 -- What is due for the bytes that were read is due for all that the source told.
-use Rattle.std.proofs.Common.{◌≡◌, refl, ap, sym, ◌∙◌, ℕ, ◌+◌, ◌<◌, ◌≤◌, List, [], ◌++◌, length, Option, Some, None, Result, Ok, Err, IfSome, subst, arith, append-nil, length-append, ◌⊎◌, inl, inr, ⊎_elim, nat_lt, ltb-true, ltb-false, Bool, true, false}
+use Rattle.std.proofs.Common.{◌≡◌, refl, ap, sym, ◌∙◌, ℕ, ◌+◌, ◌<◌, ◌≤◌, List, [], ◌++◌, length, Option, Some, None, Result, Ok, Err, IfOk, IfSome, subst, arith, append-nil, length-append, ◌⊎◌, inl, inr, ⊎_elim, nat_lt, ltb-true, ltb-false, Bool, true, false}
 use Rattle.loginctl.specs.Input.{Held}
-use Rattle.loginctl.specs.Replayed.{replay_text}
-use Rattle.loginctl.specs.Session.{IsOneSession, IsOnlySession}
+use Rattle.loginctl.specs.Replayed.{IsDue, bad_line, longest_script, overlong, refused, replayed}
 use Rattle.lg_outside.specs.Streams.{Adds}
 use Rattle.lg_outside.specs.declared.streams.Failed.{Failed}
 use Rattle.loginctl.specs.Printing.{Printed, Wrote, cut, whole}
-use Rattle.loginctl.specs.Tool.{Due, IsDue, not_built, replayed, refused}
-use Rattle.loginctl.specs.declared.session_script.OneSession.{OneSession}
+use Rattle.loginctl.specs.Tool.{Due}
+use Rattle.loginctl.specs.declared.replay.Outcome.{Outcome}
+use Rattle.lg_base.specs.declared.allocation.Memory.{Memory}
 
-pub due-session : (input : List ℕ) (session : OneSession) (text : List ℕ) → IsOnlySession input (Some session) → text ≡ replay_text session → IsDue input 0 text
-due-session input session text only e = subst (λ (t : List ℕ). IsDue input 0 t) (sym e) (replayed session only.0)
+-- what is due for an input that is no script
+pub due-refused : (input : List ℕ) (made : Result Outcome Memory) (line : ℕ) → IsDue input 3 (bad_line line)
+    → IfOk made (λ due. due.status ≡ 3) → IfOk made (λ due. due.text ≡ bad_line line) → IfOk made (λ due. IsDue input due.status due.text)
+due-refused input (Ok due) line is status text =
+    subst (λ (s : ℕ). IsDue input s due.text) (sym status) (subst (λ (t : List ℕ). IsDue input 3 t) (sym text) is)
+due-refused input (Err want) line is status text = tt
 
-pub due-none : (input text : List ℕ) → IsOnlySession input None → text ≡ not_built → IsDue input 3 text
-due-none input text only e = subst (λ (t : List ℕ). IsDue input 3 t) (sym e) (refused only)
-
--- an input past the limit is a script of no session
-due-long : (held told : List ℕ) (status : ℕ) (text : List ℕ) → 16777216 < length held → 16777216 < length told → IsDue held status text → IsDue told status text
-due-long held told _ _ h t (replayed session one) = absurd (let k = one.small in omega arith)
-due-long held told _ _ h t (refused none) = refused (λ session one. let k = one.small in absurd (omega arith))
+-- an input of which more than the limit was read is too long
+due-long : (held told : List ℕ) (status : ℕ) (text : List ℕ) → longest_script < length held → longest_script < length told → IsDue held status text → IsDue told status text
+due-long held told _ _ h t (replayed script short spells legal) = absurd (omega arith)
+due-long held told _ _ h t (refused line short bad) = absurd (omega arith)
+due-long held told _ _ h t (overlong long) = overlong t
 
 within : (a b : ℕ) → (a ≤ b) ⊎ (b < a)
 within a b = cases (nat_lt b a) refl where

@@ -1,7 +1,5 @@
 mod Choosing
 mod LoggingIn
-mod Sessions
-mod Greetings
 mod Dues
 mod Packets
 mod Told

@@ -5,6 +5,4 @@ pub mod LoginWords
 pub mod Logins
 pub mod Printing
 pub mod Replayed
-pub mod Session
 pub mod Tool
-pub mod Words

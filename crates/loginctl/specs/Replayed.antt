@@ -1,86 +1,36 @@
--- What the replay of one native session prints.
-use Rattle.std.specs.Prelude.{◌==◌, ◌&&◌, Bool, true, not, ℕ, List, [], ◌∷◌, ◌++◌, length, codes, if◌then◌else◌}
-use Rattle.hex.specs.Hex.{encode_lower}
-use Rattle.native_scramble.specs.Native.{native_right, native_stage2}
-use Rattle.lg_base.specs.declared.errors.Code.TheVariants.{Denied}
-use Rattle.lg_base.specs.declared.errors.Code.{Code}
-use Rattle.lg_base.specs.Errors.{number_of, state_of, text_of}
-use Rattle.auth_packets.specs.Handshake.{greeting_text}
-use Rattle.auth_packets.specs.Replies.{err_text, ok_text}
-use Rattle.auth_packets.specs.declared.handshake.Greeting.{Greeting}
-use Rattle.auth_packets.specs.declared.replies.OkPacket.{OkPacket}
-use Rattle.auth_packets.specs.declared.replies.ErrPacket.{ErrPacket}
-use Rattle.loginctl.specs.declared.session_script.OneSession.{OneSession}
+-- What `replay` prints for an input.
+use Rattle.std.specs.Prelude.{ℕ, ◌≤◌, ◌<◌, List, [], ◌∷◌, ◌++◌, length, codes, decimal}
+use Rattle.script_text.specs.Grammar.{Spells}
+use Rattle.script_text.specs.Reading.{Contents, IsBadLine}
+use Rattle.session_world.specs.Standing.{replay_text}
+use Rattle.session_world.specs.Transcripts.{IsHistory, all_lines}
+use Rattle.session_world.specs.Worlds.{World, after_all, new_world}
 
--- the first nonce of a run: its number in 20 digits
-unfoldable pub first_nonce : List ℕ
-first_nonce = codes "00000000000000000001"
+-- the most bytes of a script
+abbrev pub longest_script : ℕ
+longest_script = 16777216
 
--- the greeting of the first session with this nonce
-unfoldable pub first_greeting : Greeting
-first_greeting = record {
-  version = codes "8.0.0-login";
-  id = 1;
-  nonce = codes "00000000000000000001";
-  flags = 276341256;
-  charset = 255;
-  status = 2;
-  plugin = codes "caching_sha2_password";
-}
+-- the line for an input that is no script: the number of its first line that doesn't fit, or 0 where it is too long
+unfoldable pub bad_line : ℕ → List ℕ
+bad_line number = codes "bad line " ++ decimal number ++ 10 ∷ []
 
-unfoldable pub greeting_hex : List ℕ
-greeting_hex = encode_lower (greeting_text first_greeting)
+-- the world that a script starts with
+abbrev pub start_of : Contents → World
+start_of script = new_world script.setup.accounts script.setup.settings
 
--- the session's OK
-unfoldable pub ok_hex : List ℕ
-ok_hex = encode_lower (ok_text (record { affected = 0; last_id = 0; status = 2; warnings = 0; info = [] }))
+-- the entries that are printed for a script's events are a legal history
+abbrev pub IsLegalRun : Contents → Type 0
+IsLegalRun script =
+    IsHistory script.setup.accounts script.setup.settings (after_all (start_of script) script.events).common.log
+    (all_lines (start_of script) script.events)
 
--- an error as a packet's payload
-abbrev pub err_of_code : Code → ErrPacket
-err_of_code code = record { number = number_of code; state = state_of code; text = text_of code }
+-- the text for a script
+abbrev pub script_text : Contents → List ℕ
+script_text script = replay_text script.setup.accounts script.setup.settings script.events
 
--- the user is denied, and had a password
-unfoldable pub denied_hex : List ℕ → List ℕ
-denied_hex user = encode_lower (err_text (err_of_code (Denied user true)))
-
--- the answer is right: the account has a password, and the answer has 20 bytes and passes the native test
-unfoldable pub is_right : OneSession → Bool
-is_right session =
-    not (length session.password == 0) && (length session.answer == 20)
-    && native_right (native_stage2 session.password) first_nonce session.answer
-
--- a payload that the server sends: the digit of its sequence id, and its bytes in hexadecimal
-unfoldable pub send_line : ℕ → List ℕ → List ℕ
-send_line digit payload = codes "send 1 " ++ digit ∷ [] ++ 32 ∷ [] ++ payload ++ 10 ∷ []
-
--- the first entry of the history: this user was looked for
-unfoldable pub observe_line : List ℕ → List ℕ
-observe_line user = codes "entry 1 observe " ++ user ++ 10 ∷ []
-
--- the second: the attempt of this user was answered so
-unfoldable pub attempt_line : List ℕ → List ℕ → List ℕ
-attempt_line user answer = codes "entry 2 attempt " ++ user ++ 32 ∷ [] ++ answer ++ 10 ∷ []
-
--- a session that opens
-unfoldable pub opened_lines : List ℕ → List ℕ → List ℕ
-opened_lines user ok =
-    observe_line user ++ attempt_line user (codes "opened") ++ send_line 50 ok ++ (codes "end 2" ++ 10 ∷ [])
-
--- how a refused session ends, and with it the run
-unfoldable pub refused_end : List ℕ
-refused_end = codes "ended 1 refused 1045" ++ 10 ∷ codes "end 2" ++ 10 ∷ []
-
--- a session that is refused
-unfoldable pub denied_lines : List ℕ → List ℕ → List ℕ
-denied_lines user error =
-    observe_line user ++ attempt_line user (codes "denied") ++ send_line 50 error ++ refused_end
-
--- what follows the greeting
-abbrev pub outcome_lines : OneSession → List ℕ
-outcome_lines session =
-    if is_right session then opened_lines (encode_lower session.user) ok_hex
-    else denied_lines (encode_lower session.user) (denied_hex session.user)
-
--- the lines of a session
-abbrev pub replay_text : OneSession → List ℕ
-replay_text session = send_line 48 greeting_hex ++ outcome_lines session
+-- The status and the text that are due for an input: a script gives the lines of its events and 0, any other input one
+-- line and 3.
+pub data IsDue (input : List ℕ) : ℕ → List ℕ → Type 0 where
+  replayed : (script : Contents) → length input ≤ longest_script → Spells input script → IsLegalRun script → IsDue input 0 (script_text script)
+  refused : (line : ℕ) → length input ≤ longest_script → IsBadLine input line → IsDue input 3 (bad_line line)
+  overlong : longest_script < length input → IsDue input 3 (bad_line 0)

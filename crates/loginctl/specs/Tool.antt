@@ -6,9 +6,7 @@ use Rattle.loginctl.specs.Frames.{AnswersFrames}
 use Rattle.loginctl.specs.LoginWords.{Choice, Chooses}
 use Rattle.loginctl.specs.Logins.{AnswersLogin}
 use Rattle.loginctl.specs.Printing.{Printed, Wrote}
-use Rattle.loginctl.specs.Replayed.{replay_text}
-use Rattle.loginctl.specs.Session.{IsOneSession}
-use Rattle.loginctl.specs.declared.session_script.OneSession.{OneSession}
+use Rattle.loginctl.specs.Replayed.{IsDue}
 
 -- the words are the one word `replay`
 abbrev pub is_replay_words : List (List ℕ) → Bool
@@ -23,16 +21,6 @@ is_frames_words _ = false
 -- the text for words of no form
 unfoldable pub usage_text : List ℕ
 usage_text = codes "usage: loginctl replay [--generate N] | login --socket PATH --user NAME [--password WORD] [--factor2 WORD] [--factor3 WORD] [--clear] [--expired] | frames" ++ 10 ∷ []
-
--- the line for an input that is no script of one native session
-unfoldable pub not_built : List ℕ
-not_built = codes "not built" ++ 10 ∷ []
-
--- the status and the text that are due for an input: a script of one native session gives its lines and 0,
--- any other input gives one line and 3
-pub data IsDue (input : List ℕ) : ℕ → List ℕ → Type 0 where
-  replayed : (session : OneSession) → IsOneSession input session → IsDue input 0 (replay_text session)
-  refused : ((session : OneSession) → IsOneSession input session → ⊥) → IsDue input 3 not_built
 
 -- the same where the source tells its bytes; else some input is answered so
 abbrev pub Due : Option (List ℕ) → ℕ → List ℕ → Type 0

@@ -6,10 +6,9 @@ ghost use Rattle.lg_outside.specs.Faults.{Rose};
 ghost use Rattle.loginctl.specs.Frames.{AnswersFrames, IsListed, bad_line, end_line, packet_line};
 ghost use Rattle.loginctl.specs.Listing.{HasRead, IsEnded, IsSteady, Stops};
 ghost use Rattle.packet_frame.specs.Framing.{place_of};
-ghost use Rattle.std.specs.Prelude.{◌≡◌, ℕ, ◌+◌, ◌<◌, ◌≤◌, ◌++◌, [], List, Option, decimal, length, IfErr, IfOk, OnOk, true, false};
+ghost use Rattle.std.specs.Prelude.{◌≡◌, ℕ, ◌+◌, ◌<◌, ◌≤◌, ◌++◌, [], List, Option, length, IfErr, IfOk, OnOk, true, false};
 
-use crate::printing::print;
-use itoa::Buffer;
+use crate::printing::{add_number, print};
 use lg_base::{Memory, Out};
 use lg_outside::{Sink, Source};
 use packet_frame::{FrameFault, Frames, Packet, Want};
@@ -30,14 +29,6 @@ struct Listing {
     frames: Frames,
     count: u64,
     lines: Out,
-}
-
-/// Adds a number in decimal digits.
-fn add_number(lines: &mut Out, number: u64) -> Result<(), Memory>
-    ensures { OnOk result (lines.new ≡ lines.old ++ decimal number) }
-{
-    let mut digits = Buffer::new();
-    lines.bytes(digits.format(number).as_bytes())
 }
 
 /// Adds the line of a packet.

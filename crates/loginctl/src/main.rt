@@ -1,11 +1,11 @@
 //! `loginctl`: replays scripts of sessions against the login server's rules.
 //!
-//! **[`tool::run_tool`] prints, for a script of one native session, exactly the lines of that session, and its
-//! status says why it ended; for a stream of packets it prints the line of each, and how the stream ended; and
-//! it logs in to a server at a socket, and prints the client's result.**
+//! **[`tool::run_tool`] prints, for a script of any number of sessions, exactly the lines of its events, whose entries
+//! are a legal history; for a stream of packets it prints the line of each, and how the stream ended; and it logs in to
+//! a server at a socket, and prints the client's result. Its status says why it ended.**
 //! The words, the script and the printed lines are this project's own; the payloads in them are those of the
-//! MySQL client/server protocol. Below stand `packet_frame` for packets, `auth_packets` for the messages,
-//! `native_scramble` for the method, `login_client` for the client, and `lg_outside` for streams and links.
+//! MySQL client/server protocol. Below stand `script_text` for scripts and `session_world` for what happens in them,
+//! `packet_frame` for packets, `login_client` for the client, and `lg_outside` for streams and links.
 #![tactic(auto)]
 
 mod frames;
@@ -14,8 +14,6 @@ mod login_words;
 mod logins;
 mod printing;
 mod replay;
-mod script_text;
-mod session_script;
 mod tool;
 
 use lg_outside::{StdSink, StdSource, UnixLink};

@@ -83,15 +83,21 @@ fn memory_is_enough_for_a_script(rt: HostRuntime) -> Result<(), Fail> {
 }
 
 #[test]
-fn an_input_of_another_form_is_not_built(rt: HostRuntime) -> Result<(), Fail> {
+fn a_script_of_no_events_has_no_entries(rt: HostRuntime) -> Result<(), Fail> {
+    check_run(&rt, rt.alloc(), "replay", b"end\n", 0, b"end 0\n")?;
+    Ok(())
+}
+
+#[test]
+fn an_input_that_is_no_script_names_its_bad_line(rt: HostRuntime) -> Result<(), Fail> {
     let whole = SCRIPT.len();
-    for input in [
-        &SCRIPT[..0],
-        &SCRIPT[..whole - 4],
-        &SCRIPT[1..],
-        b"end\n".as_slice(),
+    for (input, line) in [
+        (&SCRIPT[..0], b"bad line 1\n".as_slice()),
+        (&SCRIPT[1..], b"bad line 1\n".as_slice()),
+        (&SCRIPT[..whole - 1], b"bad line 5\n".as_slice()),
+        (&SCRIPT[..whole - 4], b"bad line 5\n".as_slice()),
     ] {
-        check_run(&rt, rt.alloc(), "replay", input, 3, b"not built\n")?;
+        check_run(&rt, rt.alloc(), "replay", input, 3, line)?;
     }
     Ok(())
 }

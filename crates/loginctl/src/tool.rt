@@ -1,17 +1,16 @@
 //! The command line of `loginctl`: what each form of its words does, and the status that it ends with.
 
 ghost use Rattle.lg_outside.specs.Faults.{Rose};
-ghost use Rattle.loginctl.specs.Tool.{Answers, AnswersOther, IsDue, is_frames_words, is_replay_words, not_built, usage_text};
-ghost use Rattle.std.specs.Prelude.{◌≡◌, ◌≤◌, IfOk, false, map, string_bytes};
+ghost use Rattle.loginctl.specs.Tool.{Answers, AnswersOther, is_frames_words, is_replay_words, usage_text};
+ghost use Rattle.std.specs.Prelude.{◌≡◌, ◌≤◌, false, map, string_bytes};
 
 use crate::frames::print_frames;
 use crate::input::{ReadEnd, read_all};
 use crate::login_words::choose;
 use crate::logins::print_login;
 use crate::printing::print;
-use crate::replay::replayed;
-use crate::session_script::{LONGEST_SCRIPT, read_session};
-use lg_base::{Memory, Out};
+use crate::replay::{LONGEST_SCRIPT, due_for};
+use lg_base::Memory;
 use lg_outside::{Dial, Sink, Source};
 use std::alloc::Global;
 
@@ -43,38 +42,6 @@ fn usage() -> &'static [u8]
     b"usage: loginctl replay [--generate N] | login --socket PATH --user NAME [--password WORD] [--factor2 WORD] [--factor3 WORD] [--clear] [--expired] | frames\n"
 }
 
-/// What is due for an input: a status, and a text to print.
-#[derive(Drop)]
-struct Outcome {
-    status: u8,
-    text: Out,
-}
-
-/// What is due for an input.
-fn due_for(alloc: Global, input: &[u8]) -> Result<Outcome, Memory>
-    ensures { IfOk result (λ due. IsDue input.now due.status due.text) }
-{
-    match read_session(alloc, input)? {
-        Some(session) => Ok(Outcome {
-            status: 0,
-            text: replayed(alloc, &session)?,
-        }),
-        None => Ok(Outcome {
-            status: 3,
-            text: not_built_line(alloc)?,
-        }),
-    }
-}
-
-#[tactic(auto, unfolding(crate::specs::Tool::not_built))]
-fn not_built_line(alloc: Global) -> Result<Out, Memory>
-    ensures { IfOk result (λ text. text ≡ not_built) }
-{
-    let mut text = Out::new(alloc);
-    text.bytes(b"not built\n")?;
-    Ok(text)
-}
-
 /// Logs in where the words are those of a login, and else prints the usage.
 fn login_or_usage<W: Sink, L: Dial>(
     alloc: Global,
@@ -99,8 +66,8 @@ fn login_or_usage<W: Sink, L: Dial>(
 
 /// Does what the words say, and answers the status of the program.
 ///
-/// For `replay` the input is a script of one native session, and the lines that are printed are those of the
-/// session: status 0. Any other input prints one line: 3. For `frames` the input is a stream of packets, each
+/// For `replay` the input is a script of sessions, and what its events print is printed: status 0. Any other input
+/// prints the number of its first line that doesn't fit, or 0 where it is longer than a script may be: 3. For `frames` the input is a stream of packets, each
 /// of which prints a line. A last line says how the stream ended: after a packet, 0, or at a place where it
 /// is no packet or too long, 3. For `login` the link is connected to the server at a socket, and the result of
 /// the client's login is printed: opened 0, refused 1, a link that fails 4, an answer of no form or none 7, and

@@ -1,6 +1,7 @@
 use Rattle.std.proofs.Common.{◌≡◌, refl, ap, sym, ◌∙◌, List, ℕ, subst}
 use Rattle.loginctl.proofs.Dues.{due-told, printed-as, wrote-nothing}
-use Rattle.loginctl.specs.Tool.{Due, IsDue, frames, no_memory, other, ran, source_fault}
+use Rattle.loginctl.specs.Replayed.{IsDue}
+use Rattle.loginctl.specs.Tool.{frames, no_memory, other, ran, source_fault}
 use Rattle.loginctl.proofs.tool.run_tool.Goals as goal
 
 pub returns-then-is_frames-clause-answer : goal.returns-then-is_frames-clause-answer
