@@ -1,5 +1,5 @@
 -- What is due for the bytes that were read is due for all that the source told.
-use Rattle.std.proofs.Common.{◌≡◌, refl, ap, sym, ◌∙◌, ℕ, ◌+◌, ◌<◌, ◌≤◌, List, [], ◌++◌, length, Option, Some, None, Result, Ok, Err, IfOk, IfSome, subst, arith, append-nil, length-append, ◌⊎◌, inl, inr, ⊎_elim, nat_lt, ltb-true, ltb-false, Bool, true, false}
+use Rattle.std.proofs.Common.{◌≡◌, refl, ap, sym, ◌∙◌, ℕ, ◌<◌, ◌≤◌, List, [], ◌++◌, length, Option, Some, None, Result, Ok, Err, IfOk, IfSome, subst, arith, append-nil, length-append, ◌⊎◌, inl, inr, ⊎_elim, nat_lt, ltb-true, ltb-false, Bool, true, false}
 use Rattle.loginctl.specs.Input.{Held}
 use Rattle.loginctl.specs.Replayed.{IsDue, bad_line, longest_script, overlong, refused, replayed}
 use Rattle.lg_outside.specs.Streams.{Adds}

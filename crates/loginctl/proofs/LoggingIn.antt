@@ -1,5 +1,5 @@
 -- A login by what words choose.
-use Rattle.std.proofs.Common.{◌≡◌, refl, sym, ap, ◌∙◌, subst, ℕ, ◌<◌, List, [], ◌∷◌, length, Contains, Bool, true, false, Option, Some, None, IfSome, arith}
+use Rattle.std.proofs.Common.{◌≡◌, refl, sym, ap, ◌∙◌, subst, ℕ, List, [], Bool, true, false, Option, Some, None, IfSome, arith}
 use Rattle.std.specs.Prelude.{IsSomeAnd, unwrap_or}
 use Rattle.lg_outside.specs.Traffic.{Traffic}
 use Rattle.login_client.specs.Claims.{AreFit, AreUsable}

@@ -1,9 +1,9 @@
 -- What a listing of packets comes to, step by step.
-use Rattle.std.proofs.Common.{◌≡◌, refl, sym, ap, ◌∙◌, subst, ℕ, zero, suc, ◌+◌, ◌-◌, ◌<◌, ◌≤◌, List, [], ◌∷◌, ◌++◌, length, take, drop, Option, Some, None, arith, length-append, append_assoc, append-nil, ◌⊎◌, inl, inr, ⊎_elim}
+use Rattle.std.proofs.Common.{◌≡◌, refl, sym, ap, ◌∙◌, subst, ℕ, ◌+◌, ◌-◌, ◌<◌, ◌≤◌, List, [], ◌∷◌, ◌++◌, length, take, drop, Option, Some, None, arith, length-append, append_assoc, append-nil, ◌⊎◌, inl, inr, ⊎_elim}
 use Rattle.std.proofs.Math.Seq.{take-append-add}
 use Rattle.std.proofs.lemmas.List.{length-take, take-append-drop, take_all, take-append-le}
 use Rattle.packet_frame.specs.Framing.{Framing, place_of, front_of, held_length, unfinished_length, new_framing, with_bytes, due_bytes, missing_of, after_expect, IsSound, IsWhole, IsReading, Takes, Refuses, TakesPacket}
-use Rattle.packet_frame.specs.Front.{Front, Whole, Part, Fault, front, IsFront}
+use Rattle.packet_frame.specs.Front.{Front, Whole, Part, Fault, IsFront}
 use Rattle.packet_frame.specs.Packets.{IsUnfinished}
 use Rattle.packet_frame.specs.Streams.{Ending, Between, Cut, Faulty, IsEnding, HasGiven}
 use Rattle.packet_frame.specs.declared.packets.Packet.{Packet}
@@ -13,7 +13,7 @@ use Rattle.packet_frame.specs.declared.packets.FrameFault.{FrameFault}
 use Rattle.packet_frame.specs.declared.packets.FrameFault.TheVariants.{TooLarge, OutOfOrder, Memory}
 use Rattle.packet_frame.proofs.Fronts.{front-nothing}
 use Rattle.packet_frame.proofs.Shown.{begun-none}
-use Rattle.packet_frame.proofs.Loops.{takes-count, takes-given, takes-place, expected-is, expected-between, expected-given, expected-place}
+use Rattle.packet_frame.proofs.Loops.{takes-count, takes-given, takes-place, expected-is, expected-given, expected-place}
 use Rattle.packet_frame.proofs.Streams.{faulty-stream, given-ends, given-nothing, given-with_bytes}
 use Rattle.loginctl.specs.Frames.{IsFrontListed, IsFrontOf, IsLast, IsListed, IsPackets, bad_line, between, between_past, end_line, lines_from, longest_input, out_of_order, packet_line, packet_lines, too_large, unfinished, unfinished_past}
 use Rattle.loginctl.specs.Listing.{HasRead, HasStopped, IsSteady, Stops}

@@ -1,5 +1,5 @@
 -- What a listing of packets has come to.
-use Rattle.std.specs.Prelude.{◌≡◌, ℕ, ◌+◌, ◌<◌, ◌≤◌, List, [], ◌∷◌, ◌++◌, length, take, Option, Some, None}
+use Rattle.std.specs.Prelude.{◌≡◌, ℕ, ◌≤◌, List, ◌++◌, length, Option}
 use Rattle.packet_frame.specs.Framing.{place_of, front_of, IsReading}
 use Rattle.packet_frame.specs.Front.{Part}
 use Rattle.packet_frame.specs.Streams.{Faulty, HasGiven}

@@ -1,5 +1,5 @@
 -- What the words and the input of `loginctl` are answered.
-use Rattle.std.specs.Prelude.{◌≡◌, Bool, true, false, ℕ, List, [], ◌∷◌, ◌++◌, codes, take, Option, Some, None}
+use Rattle.std.specs.Prelude.{◌≡◌, Bool, true, false, ℕ, List, [], ◌∷◌, ◌++◌, codes, Option, Some, None}
 use Rattle.std.specs.Str.{bytes_eq}
 use Rattle.lg_outside.specs.Traffic.{Traffic}
 use Rattle.loginctl.specs.Frames.{AnswersFrames}

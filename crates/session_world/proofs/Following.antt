@@ -15,11 +15,11 @@ use Rattle.session_world.specs.declared.calls.Calls.TheVariants.{Nothing}
 use Rattle.session_world.specs.declared.calls.Peer.{Peer}
 use Rattle.session_world.specs.declared.calls.Peer.TheVariants.{Open, Closed, Failed}
 use Rattle.session_world.specs.Going.{Adds, Ends, Gone, Idle, Line, Sends, Stale, going}
-use Rattle.session_world.specs.Transcripts.{GoesOn, IsTranscript, Move, SessionsAreTranscripts, as_told, bytes_of, ends_in, entries_in, lines_of, move, moved, peer_at, sends_in, session_bytes, session_lines}
-use Rattle.session_world.specs.Worlds.{Happened, Place, World, after_all, happens, new_world, no_bytes, place_of}
+use Rattle.session_world.specs.Transcripts.{IsTranscript, SessionsAreTranscripts, as_told, bytes_of, ends_in, entries_in, lines_of, peer_at, sends_in, session_bytes, session_lines}
+use Rattle.session_world.specs.Worlds.{GoesOn, Move, Place, World, after_all, happens, move, moved, new_world, no_bytes, place_of}
 use Rattle.session_world.proofs.Entering.{EntersOver, EntersFrom, enters_goes_on}
 use Rattle.session_world.proofs.Legally.{entries_append}
-use Rattle.session_world.proofs.Moving.{Waits, moves_are, of_event}
+use Rattle.session_world.proofs.Moving.{Waits, of_event}
 use Rattle.session_world.proofs.Transcribed.{GoesAsOwed, IsLive, IsOver, goes_as_owed}
 
 -- all bytes so far
@@ -238,8 +238,7 @@ follow_all w (first ∷ events) number bytes lines f =
     (subst (λ (ls : List Line). FollowsLines number ((after_all w (first ∷ events)).places number) ((bytes ++ bytes_of number (move w first)) ++ session_bytes number (happens w first).world events) ls)
     (append_assoc lines (lines_of number (move w first)) (session_lines number (happens w first).world events))
     (follow_all (happens w first).world events number (bytes ++ bytes_of number (move w first)) (lines ++ lines_of number (move w first))
-    (subst (λ (h : Happened). FollowsLines number (h.world.places number) (bytes ++ bytes_of number (move w first)) (lines ++ lines_of number (move w first)))
-    (sym (moves_are w first)) (after_event w number bytes lines f first))))
+    (after_event w number bytes lines f first)))
 
 transcript_of : (number : ℕ) (found : Option Place) (bytes : List ℕ) (lines : List Line) → FollowsLines number found bytes lines →
     IsTranscript number (peer_at found) bytes lines
@@ -256,10 +255,7 @@ transcript_of number (Some place) bytes lines f = record {
 }
 
 pub sessions_are_transcripts : SessionsAreTranscripts
-sessions_are_transcripts = record {
-  moves = moves_are;
-  each = λ openings settings events number.
-      let w : World = new_world openings settings in
-      transcript_of number ((after_all w events).places number) (session_bytes number w events) (session_lines number w events)
-      (follow_all w events number [] [] (refl, refl, refl, refl));
-}
+sessions_are_transcripts openings settings events number =
+    let w : World = new_world openings settings in
+    transcript_of number ((after_all w events).places number) (session_bytes number w events) (session_lines number w events)
+    (follow_all w events number [] [] (refl, refl, refl, refl))

@@ -1,5 +1,5 @@
 -- What an event does, by what stands at its session's number.
-use Rattle.std.proofs.Common.{◌≡◌, refl, ap, sym, ◌∙◌, subst, ℕ, ◌==◌, Bool, false, true, cond, List, ◌++◌, Option, Some, None, Result, OnOk}
+use Rattle.std.proofs.Common.{◌≡◌, refl, ap, sym, ◌∙◌, subst, ℕ, ◌==◌, Bool, false, true, cond, List, [], ◌++◌, Option, Some, None, Result, OnOk}
 use Rattle.std.specs.BTreeMap.{BTreeMap, get}
 use Rattle.std.specs.Ordering.{nat_cmp}
 use Rattle.session_world.proofs.Taking.{same_number}
@@ -10,12 +10,12 @@ use Rattle.session_world.specs.declared.calls.Calls.{Calls}
 use Rattle.session_world.specs.declared.calls.Calls.TheVariants.{Nothing}
 use Rattle.session_world.specs.declared.calls.Peer.{Peer}
 use Rattle.session_world.specs.declared.held.Held.{Held}
-use Rattle.session_world.specs.Going.{Common}
+use Rattle.session_world.specs.Going.{Common, going}
 use Rattle.script_text.specs.declared.event.Event.{Event}
 use Rattle.session_world.specs.Standing.{Mirrors}
 use Rattle.session_world.specs.declared.worlds.World.{World as Kept}
-use Rattle.session_world.specs.Sessions.{AreBeside, Follows, IsTaken, ShowsBeside, world_of}
-use Rattle.session_world.specs.Worlds.{AreAt, Happened, IsAt, Place, Shows, World, called, going_on, happens, idle, is_there, left, more_at, opened, sent, waits, with_place}
+use Rattle.session_world.specs.Sessions.{AreBeside, Follows, ShowsBeside, world_of}
+use Rattle.session_world.specs.Worlds.{AreAt, GoesOn, Happened, IsAt, IsIdle, Place, Shows, World, calling, going_on, happens, idle, is_there, leaving, more_at, moved, sending, waits, with_place}
 
 -- ## Places
 
@@ -48,31 +48,44 @@ all_beside number sessions places at is q = free_by (q == number) q number (get 
 -- ## Events
 
 module _ (w : World) (number : ℕ) where
-  pub opened_idle : (o : Option Place) (place : Place) → o ≡ Some place → opened w number o ≡ idle w number
-  opened_idle o place is = ap (opened w number) is
-
   module _ (calls : Calls) where
-    pub called_goes : (o : Option Place) (place : Place) → o ≡ Some place → waits place.at ≡ true → called w number calls o ≡ going_on w number calls place
-    called_goes o place is e = ap (called w number calls) is ∙ ap (λ (b : Bool). cond b (going_on w number calls place) (idle w number)) e
+    pub called_goes : (o : Option Place) (place : Place) → o ≡ Some place → waits place.at ≡ true →
+        moved w (calling w number calls o) ≡ going_on w number calls place
+    called_goes o place is e = ap (λ (p : Option Place). moved w (calling w number calls p)) is
+        ∙ ap (λ (b : Bool). moved w (cond b (GoesOn number place.peer [] (going place.peer calls w.common place.next place.at place.unread)) (IsIdle number))) e
 
-    pub called_rests : (o : Option Place) (place : Place) → o ≡ Some place → waits place.at ≡ false → called w number calls o ≡ idle w number
-    called_rests o place is e = ap (called w number calls) is ∙ ap (λ (b : Bool). cond b (going_on w number calls place) (idle w number)) e
+    pub called_rests : (o : Option Place) (place : Place) → o ≡ Some place → waits place.at ≡ false →
+        moved w (calling w number calls o) ≡ idle w number
+    called_rests o place is e = ap (λ (p : Option Place). moved w (calling w number calls p)) is
+        ∙ ap (λ (b : Bool). moved w (cond b (GoesOn number place.peer [] (going place.peer calls w.common place.next place.at place.unread)) (IsIdle number))) e
 
   module _ (bytes : List ℕ) where
-    pub sent_goes : (o : Option Place) (place : Place) → o ≡ Some place → is_there place.at place.peer ≡ true →
-        sent w number bytes o ≡ going_on w number Nothing (more_at place bytes)
-    sent_goes o place is e = ap (sent w number bytes) is ∙ ap (λ (b : Bool). cond b (going_on w number Nothing (more_at place bytes)) (idle w number)) e
+    sent_by : (place : Place) → Bool → Happened
+    sent_by place b = moved w (cond b (GoesOn number place.peer bytes (going place.peer Nothing w.common place.next place.at (more_at place bytes).unread)) (IsIdle number))
 
-    pub sent_rests : (o : Option Place) (place : Place) → o ≡ Some place → is_there place.at place.peer ≡ false → sent w number bytes o ≡ idle w number
-    sent_rests o place is e = ap (sent w number bytes) is ∙ ap (λ (b : Bool). cond b (going_on w number Nothing (more_at place bytes)) (idle w number)) e
+    pub sent_goes : (o : Option Place) (place : Place) → o ≡ Some place → is_there place.at place.peer ≡ true →
+        moved w (sending w number bytes o) ≡ going_on w number Nothing (more_at place bytes)
+    unfolding sent_by
+    sent_goes o place is e = ap (λ (p : Option Place). moved w (sending w number bytes p)) is ∙ ap (sent_by place) e
+
+    pub sent_rests : (o : Option Place) (place : Place) → o ≡ Some place → is_there place.at place.peer ≡ false →
+        moved w (sending w number bytes o) ≡ idle w number
+    unfolding sent_by
+    sent_rests o place is e = ap (λ (p : Option Place). moved w (sending w number bytes p)) is ∙ ap (sent_by place) e
 
   module _ (peer : Peer) where
-    pub left_goes : (o : Option Place) (place : Place) → o ≡ Some place → is_there place.at place.peer ≡ true →
-        left w number peer o ≡ going_on w number Nothing (record place { peer = peer })
-    left_goes o place is e = ap (left w number peer) is ∙ ap (λ (b : Bool). cond b (going_on w number Nothing (record place { peer = peer })) (idle w number)) e
+    left_by : (place : Place) → Bool → Happened
+    left_by place b = moved w (cond b (GoesOn number peer [] (going peer Nothing w.common place.next place.at place.unread)) (IsIdle number))
 
-    pub left_rests : (o : Option Place) (place : Place) → o ≡ Some place → is_there place.at place.peer ≡ false → left w number peer o ≡ idle w number
-    left_rests o place is e = ap (left w number peer) is ∙ ap (λ (b : Bool). cond b (going_on w number Nothing (record place { peer = peer })) (idle w number)) e
+    pub left_goes : (o : Option Place) (place : Place) → o ≡ Some place → is_there place.at place.peer ≡ true →
+        moved w (leaving w number peer o) ≡ going_on w number Nothing (record place { peer = peer })
+    unfolding left_by
+    left_goes o place is e = ap (λ (p : Option Place). moved w (leaving w number peer p)) is ∙ ap (left_by place) e
+
+    pub left_rests : (o : Option Place) (place : Place) → o ≡ Some place → is_there place.at place.peer ≡ false →
+        moved w (leaving w number peer o) ≡ idle w number
+    unfolding left_by
+    left_rests o place is e = ap (λ (p : Option Place). moved w (leaving w number peer p)) is ∙ ap (left_by place) e
 
 -- ## What is taken out
 

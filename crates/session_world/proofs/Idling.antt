@@ -1,5 +1,5 @@
 -- An event that prints that it is idle changes nothing.
-use Rattle.std.proofs.Common.{◌≡◌, refl, ap, sym, ◌∙◌, ℕ, ◌+◌, Bool, true, false, if◌then◌else◌, List, [], ◌∷◌, arith}
+use Rattle.std.proofs.Common.{◌≡◌, refl, ap, ℕ, ◌+◌, Bool, true, false, if◌then◌else◌, List, [], ◌∷◌, arith}
 use Rattle.packet_frame.specs.Front.{Front, Whole, Part, Fault}
 use Rattle.packet_frame.specs.Packets.{id_after}
 use Rattle.packet_frame.specs.declared.packets.FrameFault.{FrameFault}
@@ -16,9 +16,9 @@ use Rattle.session_world.specs.declared.calls.Peer.TheVariants.{Open, Closed, Fa
 use Rattle.session_world.specs.Drawing.{drawn_nonce}
 use Rattle.session_world.specs.Going.{Adds, Common, Ends, Gone, Idle, Line, Sends, Stale, by_front, closing, going, if_allowed, is_stale, unread_by, with_draw}
 use Rattle.session_world.specs.Printing.{line_text, lines_text, look_line, attempt_line}
-use Rattle.session_world.specs.Transcripts.{GoesOn, IdleChangesNothing, IsIdle, Move, Sets, move, moved}
-use Rattle.session_world.specs.Worlds.{Happened, World}
-use Rattle.session_world.proofs.Moving.{moves_are, of_event}
+use Rattle.session_world.specs.Transcripts.{IdleChangesNothing}
+use Rattle.session_world.specs.Worlds.{GoesOn, IsIdle, Move, Sets, World, move, moved}
+use Rattle.session_world.proofs.Moving.{of_event}
 
 -- the first line isn't that nothing was to be done
 abbrev pub AreBusy : List Line → Type 0
@@ -108,5 +108,4 @@ idle_move w (IsIdle session) number busy e = refl
 
 pub idle_changes_nothing : IdleChangesNothing
 idle_changes_nothing w event number e =
-    ap (λ (h : Happened). h.world) (moves_are w event)
-    ∙ idle_move w (move w event) number (move_busy w event) (sym (ap (λ (h : Happened). h.text) (moves_are w event)) ∙ e)
+    idle_move w (move w event) number (move_busy w event) e

@@ -19,10 +19,10 @@ use Rattle.session_world.specs.declared.calls.Peer.{Peer}
 use Rattle.session_world.specs.declared.calls.Peer.TheVariants.{Open, Closed, Failed}
 use Rattle.session_world.specs.Drawing.{drawn_nonce}
 use Rattle.session_world.specs.Going.{Adds, Common, Ends, Gone, Idle, Line, Sends, Stale, attempted, by_front, closing, going, is_stale, replied, seen, spent, unread_by, with_draw, with_entry}
-use Rattle.session_world.specs.Transcripts.{HistoriesAreLegal, Move, Numbered, all_lines, entries_in, lines_in, move, moved, numbered, numbered_in}
-use Rattle.session_world.specs.Worlds.{Happened, World, after_all, happens, new_world}
+use Rattle.session_world.specs.Transcripts.{HistoriesAreLegal, Numbered, all_lines, entries_in, lines_in, numbered, numbered_in}
+use Rattle.session_world.specs.Worlds.{Move, World, after_all, happens, move, moved, new_world}
 use Rattle.session_world.proofs.Idling.{if_allowed_is, if_is}
-use Rattle.session_world.proofs.Moving.{moves_are, of_event}
+use Rattle.session_world.proofs.Moving.{of_event}
 
 -- a log with the entries of these lines, by their numbers, each answered by what is before it
 pub record Extends (before : Log) (lines : List Line) (after : Log) : Type 0 where
@@ -164,13 +164,12 @@ MoveWrites w m = Extends w.common.log (lines_in m) (moved w m).world.common.log
 
 event_writes : (w : World) (event : Event) → Extends w.common.log (lines_in (move w event)) (happens w event).world.common.log
 event_writes w event =
-    subst (λ (h : Happened). Extends w.common.log (lines_in (move w event)) h.world.common.log) (sym (moves_are w event))
-    (of_event w (MoveWrites w) (record {
+    of_event w (MoveWrites w) (record {
       sets = λ reading. unchanged w.common.log [] refl refl;
       idles = λ number. unchanged w.common.log (Idle ∷ []) refl refl;
       opens = λ number e. going_writes _ _ w.common _ _ _;
       goes = λ number place peer calls bytes e ready. going_writes peer calls w.common place.next place.at _;
-    }) event)
+    }) event
 
 events_write : (w : World) (events : List Event) → Extends w.common.log (all_lines w events) (after_all w events).common.log
 events_write w [] = unchanged w.common.log [] refl refl

@@ -12,41 +12,8 @@ use Rattle.session_world.specs.declared.calls.Calls.TheVariants.{Nothing, One, A
 use Rattle.session_world.specs.declared.calls.Peer.{Peer}
 use Rattle.session_world.specs.declared.calls.Peer.TheVariants.{Open, Closed, Failed}
 use Rattle.session_world.specs.Going.{Gone, going}
-use Rattle.session_world.specs.Transcripts.{GoesOn, IsIdle, Move, Sets, as_told, calling, leaving, move, moved, opening, sending}
-use Rattle.session_world.specs.Worlds.{Place, World, called, goes, happens, idle, is_there, left, no_bytes, opened, sent, waits}
-
--- ## What happens
-
-module _ (w : World) where
-  chosen : (session : ℕ) (peer : Peer) (bytes : List ℕ) (g : Gone) (may : Bool) →
-      (if may then goes w session peer g else idle w session) ≡ moved w (if may then GoesOn session peer bytes g else IsIdle session)
-  chosen session peer bytes g true = refl
-  chosen session peer bytes g false = refl
-
-  opened_is : (number : ℕ) (found : Option Place) → opened w number found ≡ moved w (opening w number found)
-  opened_is number None = refl
-  opened_is number (Some place) = refl
-
-  called_is : (number : ℕ) (calls : Calls) (found : Option Place) → called w number calls found ≡ moved w (calling w number calls found)
-  called_is number calls None = refl
-  called_is number calls (Some place) = chosen number place.peer [] _ (waits place.at)
-
-  sent_is : (number : ℕ) (bytes : List ℕ) (found : Option Place) → sent w number bytes found ≡ moved w (sending w number bytes found)
-  sent_is number bytes None = refl
-  sent_is number bytes (Some place) = chosen number place.peer bytes _ (is_there place.at place.peer)
-
-  left_is : (number : ℕ) (peer : Peer) (found : Option Place) → left w number peer found ≡ moved w (leaving w number peer found)
-  left_is number peer None = refl
-  left_is number peer (Some place) = chosen number peer [] _ (is_there place.at place.peer)
-
-pub moves_are : (w : World) (event : Event) → happens w event ≡ moved w (move w event)
-moves_are w (event.Clock reading) = refl
-moves_are w (event.Open number) = opened_is w number (w.places number)
-moves_are w (event.FromPeer number bytes) = sent_is w number bytes (w.places number)
-moves_are w (event.Step number) = called_is w number One (w.places number)
-moves_are w (event.Run number) = called_is w number All (w.places number)
-moves_are w (event.Close number) = left_is w number Closed (w.places number)
-moves_are w (event.Cut number) = left_is w number Failed (w.places number)
+use Rattle.session_world.specs.Transcripts.{as_told}
+use Rattle.session_world.specs.Worlds.{GoesOn, IsIdle, Move, Place, Sets, World, calling, is_there, leaving, move, no_bytes, opening, sending, waits}
 
 -- ## What holds of each
 

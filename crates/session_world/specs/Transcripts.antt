@@ -8,68 +8,15 @@ use Rattle.account_history.specs.declared.entries.Opening.{Opening}
 use Rattle.account_machine.specs.Openings.{opening_start}
 use Rattle.account_rules.specs.declared.accounts.Settings.{Settings}
 use Rattle.script_text.specs.declared.event.Event.{Event}
-use Rattle.script_text.specs.declared.event.Event.TheVariants as event
-use Rattle.session_talk.specs.Logins.{session}
 use Rattle.session_talk.specs.Owed.{Sent}
 use Rattle.session_talk.specs.Transcript as told
 use Rattle.session_talk.specs.Transcript.{Transcript}
 use Rattle.session_talk.specs.declared.ends.SessionEnd.{SessionEnd}
-use Rattle.session_world.specs.declared.calls.Calls.{Calls}
-use Rattle.session_world.specs.declared.calls.Calls.TheVariants.{Nothing, One, All}
 use Rattle.session_world.specs.declared.calls.Peer.{Peer}
 use Rattle.session_world.specs.declared.calls.Peer.TheVariants.{Open, Closed, Failed}
-use Rattle.session_world.specs.Going.{Gone, Line, Sends, Adds, Stale, Ends, Idle, going}
+use Rattle.session_world.specs.Going.{Line, Sends, Adds, Stale, Ends, Idle}
 use Rattle.session_world.specs.Printing.{lines_text}
-use Rattle.session_world.specs.Worlds.{Happened, Place, World, after_all, goes, happens, idle, is_there, more_at, new_world, no_bytes, waits}
-
--- ## What an event comes to
-
--- the clock is set; or a session goes on, whose peer stands so and to which further bytes have come; or nothing can be
--- done
-pub data Move : Type 0 where
-  Sets : (reading : ℕ) → Move
-  GoesOn : (session : ℕ) → Peer → (bytes : List ℕ) → Gone → Move
-  IsIdle : (session : ℕ) → Move
-
-abbrev pub opening : World → ℕ → Option Place → Move
-opening w number (Some place) = IsIdle number
-opening w number None = GoesOn number Open [] (going Open Nothing w.common 0 (session number) no_bytes)
-
-abbrev pub calling : World → ℕ → Calls → Option Place → Move
-calling w number calls None = IsIdle number
-calling w number calls (Some place) =
-    if waits place.at
-    then GoesOn number place.peer [] (going place.peer calls w.common place.next place.at place.unread)
-    else IsIdle number
-
-abbrev pub sending : World → ℕ → List ℕ → Option Place → Move
-sending w number bytes None = IsIdle number
-sending w number bytes (Some place) =
-    if is_there place.at place.peer
-    then GoesOn number place.peer bytes (going place.peer Nothing w.common place.next place.at (more_at place bytes).unread)
-    else IsIdle number
-
-abbrev pub leaving : World → ℕ → Peer → Option Place → Move
-leaving w number peer None = IsIdle number
-leaving w number peer (Some place) =
-    if is_there place.at place.peer
-    then GoesOn number peer [] (going peer Nothing w.common place.next place.at place.unread)
-    else IsIdle number
-
-abbrev pub move : World → Event → Move
-move w (event.Clock reading) = Sets reading
-move w (event.Open number) = opening w number (w.places number)
-move w (event.FromPeer number bytes) = sending w number bytes (w.places number)
-move w (event.Step number) = calling w number One (w.places number)
-move w (event.Run number) = calling w number All (w.places number)
-move w (event.Close number) = leaving w number Closed (w.places number)
-move w (event.Cut number) = leaving w number Failed (w.places number)
-
--- the world after it, and what is printed
-abbrev pub moved : World → Move → Happened
-moved w (Sets reading) = record { world = record w { common = record w.common { clock = reading } }; text = [] }
-moved w (GoesOn number peer bytes g) = goes w number peer g
-moved w (IsIdle number) = idle w number
+use Rattle.session_world.specs.Worlds.{GoesOn, IsIdle, Move, Place, Sets, World, after_all, happens, move, new_world}
 
 -- ## Over events
 
@@ -184,11 +131,11 @@ pub record IsTranscript (number : ℕ) (peer : Peer) (bytes : List ℕ) (lines :
 
 -- What is printed of each session is a transcript, over the bytes that came to it: however the sessions are interleaved
 -- and their bytes are cut.
-pub record SessionsAreTranscripts : Type 0 where
-  pub moves : (w : World) (event : Event) → happens w event ≡ moved w (move w event)
-  pub each : (openings : List Opening) (settings : Settings) (events : List Event) (number : ℕ) →
-      let w = new_world openings settings in
-      IsTranscript number (peer_at ((after_all w events).places number)) (session_bytes number w events) (session_lines number w events)
+abbrev pub SessionsAreTranscripts : Type 0
+SessionsAreTranscripts =
+    (openings : List Opening) (settings : Settings) (events : List Event) (number : ℕ) →
+    let w = new_world openings settings in
+    IsTranscript number (peer_at ((after_all w events).places number)) (session_bytes number w events) (session_lines number w events)
 
 -- An event that prints that it is idle changes nothing.
 abbrev pub IdleChangesNothing : Type 0

@@ -103,39 +103,62 @@ is_open_by asks Open = true
 is_open_by asks Closed = false
 is_open_by asks Failed = false
 
-abbrev pub opened : World → ℕ → Option Place → Happened
-opened w number (Some place) = idle w number
-opened w number None = goes w number Open (going Open Nothing w.common 0 (session number) no_bytes)
-
-abbrev pub called : World → ℕ → Calls → Option Place → Happened
-called w number calls None = idle w number
-called w number calls (Some place) = if waits place.at then going_on w number calls place else idle w number
-
 -- further bytes have come
 abbrev pub more_at : Place → List ℕ → Place
 more_at place bytes = record place { unread = record { place = place.unread.place; bytes = place.unread.bytes ++ bytes } }
 
-abbrev pub sent : World → ℕ → List ℕ → Option Place → Happened
-sent w number bytes None = idle w number
-sent w number bytes (Some place) =
-    if is_there place.at place.peer
-    then going_on w number Nothing (more_at place bytes)
-    else idle w number
+-- ## What an event comes to
 
-abbrev pub left : World → ℕ → Peer → Option Place → Happened
-left w number peer None = idle w number
-left w number peer (Some place) =
-    if is_there place.at place.peer then going_on w number Nothing (record place { peer = peer }) else idle w number
+-- the clock is set; or a session goes on, whose peer stands so and to which further bytes have come; or nothing can be
+-- done
+pub data Move : Type 0 where
+  Sets : (reading : ℕ) → Move
+  GoesOn : (session : ℕ) → Peer → (bytes : List ℕ) → Gone → Move
+  IsIdle : (session : ℕ) → Move
+
+abbrev pub opening : World → ℕ → Option Place → Move
+opening w number (Some place) = IsIdle number
+opening w number None = GoesOn number Open [] (going Open Nothing w.common 0 (session number) no_bytes)
+
+abbrev pub calling : World → ℕ → Calls → Option Place → Move
+calling w number calls None = IsIdle number
+calling w number calls (Some place) =
+    if waits place.at
+    then GoesOn number place.peer [] (going place.peer calls w.common place.next place.at place.unread)
+    else IsIdle number
+
+abbrev pub sending : World → ℕ → List ℕ → Option Place → Move
+sending w number bytes None = IsIdle number
+sending w number bytes (Some place) =
+    if is_there place.at place.peer
+    then GoesOn number place.peer bytes (going place.peer Nothing w.common place.next place.at (more_at place bytes).unread)
+    else IsIdle number
+
+abbrev pub leaving : World → ℕ → Peer → Option Place → Move
+leaving w number peer None = IsIdle number
+leaving w number peer (Some place) =
+    if is_there place.at place.peer
+    then GoesOn number peer [] (going peer Nothing w.common place.next place.at place.unread)
+    else IsIdle number
+
+abbrev pub move : World → Event → Move
+move w (event.Clock reading) = Sets reading
+move w (event.Open number) = opening w number (w.places number)
+move w (event.FromPeer number bytes) = sending w number bytes (w.places number)
+move w (event.Step number) = calling w number One (w.places number)
+move w (event.Run number) = calling w number All (w.places number)
+move w (event.Close number) = leaving w number Closed (w.places number)
+move w (event.Cut number) = leaving w number Failed (w.places number)
+
+-- the world after it, and its text
+abbrev pub moved : World → Move → Happened
+moved w (Sets reading) = record { world = record w { common = record w.common { clock = reading } }; text = [] }
+moved w (GoesOn number peer bytes g) = goes w number peer g
+moved w (IsIdle number) = idle w number
 
 -- what an event does
 abbrev pub happens : World → Event → Happened
-happens w (event.Clock reading) = record { world = record w { common = record w.common { clock = reading } }; text = [] }
-happens w (event.Open number) = opened w number (w.places number)
-happens w (event.FromPeer number bytes) = sent w number bytes (w.places number)
-happens w (event.Step number) = called w number One (w.places number)
-happens w (event.Run number) = called w number All (w.places number)
-happens w (event.Close number) = left w number Closed (w.places number)
-happens w (event.Cut number) = left w number Failed (w.places number)
+happens w event = moved w (move w event)
 
 -- all events, one after another
 abbrev pub after_all : World → List Event → World

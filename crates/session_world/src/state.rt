@@ -53,8 +53,8 @@ impl State {
 
     /// A session begins, unless one of its number did.
     fn open(&mut self, alloc: Global, number: u32, out: &mut Out) -> Result<(), Memory>
-        ensures left { (places : ℕ → Option Place) → AreAt self.old.sessions places → OnOk result (Follows (world.opened (world_of self.old.table places) number (places number)) self.new.table self.new.sessions) }
-        ensures printed { (places : ℕ → Option Place) → AreAt self.old.sessions places → OnOk result (out.new ≡ out.old ++ (world.opened (world_of self.old.table places) number (places number)).text) }
+        ensures left { (places : ℕ → Option Place) → AreAt self.old.sessions places → OnOk result (Follows (world.moved (world_of self.old.table places) (world.opening (world_of self.old.table places) number (places number))) self.new.table self.new.sessions) }
+        ensures printed { (places : ℕ → Option Place) → AreAt self.old.sessions places → OnOk result (out.new ≡ out.old ++ (world.moved (world_of self.old.table places) (world.opening (world_of self.old.table places) number (places number))).text) }
     {
         match take(&mut self.sessions, number) {
             Some(held) => self.rest(number, held, out),
@@ -73,8 +73,8 @@ impl State {
         calls: Calls,
         out: &mut Out,
     ) -> Result<(), Memory>
-        ensures left { (places : ℕ → Option Place) → AreAt self.old.sessions places → OnOk result (Follows (world.called (world_of self.old.table places) number calls (places number)) self.new.table self.new.sessions) }
-        ensures printed { (places : ℕ → Option Place) → AreAt self.old.sessions places → OnOk result (out.new ≡ out.old ++ (world.called (world_of self.old.table places) number calls (places number)).text) }
+        ensures left { (places : ℕ → Option Place) → AreAt self.old.sessions places → OnOk result (Follows (world.moved (world_of self.old.table places) (world.calling (world_of self.old.table places) number calls (places number))) self.new.table self.new.sessions) }
+        ensures printed { (places : ℕ → Option Place) → AreAt self.old.sessions places → OnOk result (out.new ≡ out.old ++ (world.moved (world_of self.old.table places) (world.calling (world_of self.old.table places) number calls (places number))).text) }
     {
         match take(&mut self.sessions, number) {
             None => print_idle(out, number),
@@ -96,8 +96,8 @@ impl State {
         bytes: &[u8],
         out: &mut Out,
     ) -> Result<(), Memory>
-        ensures left { (places : ℕ → Option Place) → AreAt self.old.sessions places → OnOk result (Follows (world.sent (world_of self.old.table places) number bytes.now (places number)) self.new.table self.new.sessions) }
-        ensures printed { (places : ℕ → Option Place) → AreAt self.old.sessions places → OnOk result (out.new ≡ out.old ++ (world.sent (world_of self.old.table places) number bytes.now (places number)).text) }
+        ensures left { (places : ℕ → Option Place) → AreAt self.old.sessions places → OnOk result (Follows (world.moved (world_of self.old.table places) (world.sending (world_of self.old.table places) number bytes.now (places number))) self.new.table self.new.sessions) }
+        ensures printed { (places : ℕ → Option Place) → AreAt self.old.sessions places → OnOk result (out.new ≡ out.old ++ (world.moved (world_of self.old.table places) (world.sending (world_of self.old.table places) number bytes.now (places number))).text) }
     {
         match take(&mut self.sessions, number) {
             None => print_idle(out, number),
@@ -113,15 +113,9 @@ impl State {
     }
 
     /// The peer of a session ends, or its link fails.
-    fn leave(
-        &mut self,
-        alloc: Global,
-        number: u32,
-        peer: Peer,
-        out: &mut Out,
-    ) -> Result<(), Memory>
-        ensures left { (places : ℕ → Option Place) → AreAt self.old.sessions places → OnOk result (Follows (world.left (world_of self.old.table places) number peer (places number)) self.new.table self.new.sessions) }
-        ensures printed { (places : ℕ → Option Place) → AreAt self.old.sessions places → OnOk result (out.new ≡ out.old ++ (world.left (world_of self.old.table places) number peer (places number)).text) }
+    fn leave(&mut self, alloc: Global, number: u32, peer: Peer, out: &mut Out) -> Result<(), Memory>
+        ensures left { (places : ℕ → Option Place) → AreAt self.old.sessions places → OnOk result (Follows (world.moved (world_of self.old.table places) (world.leaving (world_of self.old.table places) number peer (places number))) self.new.table self.new.sessions) }
+        ensures printed { (places : ℕ → Option Place) → AreAt self.old.sessions places → OnOk result (out.new ≡ out.old ++ (world.moved (world_of self.old.table places) (world.leaving (world_of self.old.table places) number peer (places number))).text) }
     {
         match take(&mut self.sessions, number) {
             None => print_idle(out, number),

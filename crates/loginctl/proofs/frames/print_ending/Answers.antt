@@ -1,5 +1,5 @@
-use Rattle.std.proofs.Common.{◌≡◌, refl, sym, ap, ◌∙◌, subst, List, ℕ}
-use Rattle.loginctl.specs.Listing.{IsEnded, printed, without_memory}
+use Rattle.std.proofs.Common.{refl}
+use Rattle.loginctl.specs.Listing.{printed, without_memory}
 use Rattle.loginctl.proofs.Dues.{printed-as}
 use Rattle.loginctl.proofs.frames.print_ending.Goals as goal
 

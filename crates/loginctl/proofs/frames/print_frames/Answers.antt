@@ -1,10 +1,10 @@
-use Rattle.std.proofs.Common.{◌≡◌, refl, sym, ap, ◌∙◌, subst, ℕ, ◌+◌, ◌-◌, ◌<◌, ◌≤◌, List, [], ◌++◌, length, take, arith, length-append}
+use Rattle.std.proofs.Common.{◌≡◌, refl, subst, ℕ, ◌+◌, ◌-◌, ◌<◌, ◌≤◌, List, [], ◌++◌, length, take, arith, length-append}
 use Rattle.std.proofs.lemmas.List.{length-take-le}
 use Rattle.loginctl.specs.Frames.{no_memory, ran, sink_fault, source_fault}
 use Rattle.loginctl.specs.Printing.{Wrote, WrotePart}
 use Rattle.packet_frame.specs.Framing.{place_of}
 use Rattle.loginctl.proofs.Dues.{printed-as, wrote-nothing}
-use Rattle.loginctl.proofs.Packets.{flushed, front-listed, front-written, none-listed}
+use Rattle.loginctl.proofs.Packets.{flushed, front-listed, front-written}
 use Rattle.loginctl.proofs.Told.{ended-answers, held-front, held-listed, held-more, held-nothing, part-after, printed-after, rose-later, wrote-more, wrote-part}
 use Rattle.loginctl.proofs.frames.print_frames.Goals as goal
 

@@ -1,5 +1,4 @@
 use Rattle.std.proofs.Common.{◌≡◌, ◌+◌, ◌-◌, ◌≤◌, length}
-use Rattle.lg_outside.specs.Faults.{Rose}
 use Rattle.loginctl.specs.Input.{Held}
 use Rattle.loginctl.proofs.input.read_all.Given as goal
 

@@ -1,5 +1,5 @@
 use Rattle.std.proofs.Common.{◌≡◌, ◌-◌, sym, ap, ◌∙◌, subst, length, take, drop, List, ◌∷◌, ℕ, Bool}
-use Rattle.std.specs.Prelude.{map, string_bytes}
+use Rattle.std.specs.Prelude.{string_bytes}
 use Rattle.loginctl.specs.LoginWords.{Becomes, choice_of, chosen_by, named, with_value}
 use Rattle.loginctl.proofs.Choosing.{flag-kept, split-words, value-kept}
 use Rattle.loginctl.proofs.login_words.read_chosen.Goals as goal

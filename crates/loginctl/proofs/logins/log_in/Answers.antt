@@ -1,4 +1,4 @@
-use Rattle.std.proofs.Common.{◌≡◌, refl, sym, ap, ◌∙◌, arith}
+use Rattle.std.proofs.Common.{refl, arith}
 use Rattle.loginctl.specs.LoginWords.{choice_of}
 use Rattle.loginctl.specs.Logins.{undialled, unmade}
 use Rattle.loginctl.proofs.LoggingIn.{logs-in, options-usable, secrets-fit, user-whole}

@@ -1,4 +1,4 @@
-use Rattle.std.proofs.Common.{◌≡◌, refl, sym, ap, ◌∙◌, subst, Bool, IsTrue}
+use Rattle.std.proofs.Common.{refl, sym, ◌∙◌, subst, Bool, IsTrue}
 use Rattle.loginctl.specs.Logins.{login_line, login_status, no_memory, told}
 use Rattle.loginctl.proofs.Dues.{printed-with, wrote-nothing}
 use Rattle.loginctl.proofs.logins.print_login.Goals as goal

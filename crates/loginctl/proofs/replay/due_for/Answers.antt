@@ -1,5 +1,5 @@
-use Rattle.std.proofs.Common.{◌≡◌, sym, subst, ℕ, List, length, ◌≤◌, arith, Result, Err}
-use Rattle.script_text.specs.Reading.{Contents, Reads}
+use Rattle.std.proofs.Common.{sym, subst, ℕ, List, arith, Err}
+use Rattle.script_text.specs.Reading.{Reads}
 use Rattle.script_text.specs.declared.ScriptFault.{ScriptFault}
 use Rattle.loginctl.specs.Replayed.{IsDue, overlong, refused, replayed}
 use Rattle.loginctl.proofs.Dues.{due-refused}
@@ -18,5 +18,5 @@ pub returns-in-Err-BadLine : goal.returns-in-Err-BadLine
 returns-in-Err-BadLine c =
     due-refused c.args.input.now c.refused-in-Err-BadLine.result c.in-Err-BadLine.line
     (refused c.in-Err-BadLine.line (let short = c.if-input-gt-LONGEST_SCRIPT.false in omega (arith, short))
-        (subst (λ (f : ScriptFault). Reads c.args.input.now (Err f)) c.in-Err-BadLine.field-0-is (c.in-Err-BadLine.ensures {u = tt}).reads))
+    (subst (λ (f : ScriptFault). Reads c.args.input.now (Err f)) c.in-Err-BadLine.field-0-is (c.in-Err-BadLine.ensures {u = tt}).reads))
     c.refused-in-Err-BadLine.ensures.status c.refused-in-Err-BadLine.ensures.line

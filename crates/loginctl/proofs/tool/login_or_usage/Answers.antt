@@ -1,4 +1,4 @@
-use Rattle.std.proofs.Common.{◌≡◌, refl, subst, Option}
+use Rattle.std.proofs.Common.{refl, subst, Option}
 use Rattle.std.specs.Prelude.{map, string_bytes}
 use Rattle.loginctl.specs.LoginWords.{IsChosen, choice_of}
 use Rattle.loginctl.specs.Tool.{login, unread, usage}

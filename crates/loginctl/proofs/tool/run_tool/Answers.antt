@@ -1,4 +1,4 @@
-use Rattle.std.proofs.Common.{◌≡◌, refl, ap, sym, ◌∙◌, List, ℕ, subst}
+use Rattle.std.proofs.Common.{refl, sym, ◌∙◌, List, ℕ, subst}
 use Rattle.loginctl.proofs.Dues.{due-told, printed-as, wrote-nothing}
 use Rattle.loginctl.specs.Replayed.{IsDue}
 use Rattle.loginctl.specs.Tool.{frames, no_memory, other, ran, source_fault}

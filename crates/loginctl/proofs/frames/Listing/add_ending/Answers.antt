@@ -1,4 +1,4 @@
-use Rattle.std.proofs.Common.{◌≡◌, ◌-◌, sym, ◌∙◌, arith}
+use Rattle.std.proofs.Common.{◌-◌, arith}
 use Rattle.loginctl.proofs.Packets.{ends-between, ends-within, held-part}
 use Rattle.loginctl.proofs.frames.Listing.add_ending.Goals as goal
 

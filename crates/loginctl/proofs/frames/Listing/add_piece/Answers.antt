@@ -1,4 +1,4 @@
-use Rattle.std.proofs.Common.{◌≡◌, refl, sym, ap, ◌∙◌, subst, ℕ, ◌+◌, ◌-◌, ◌<◌, ◌≤◌, List, [], ◌++◌, length, Result, Ok, Err, IfOk, Bool, true, arith, length-append, append_assoc}
+use Rattle.std.proofs.Common.{◌≡◌, sym, ap, ◌∙◌, subst, ℕ, ◌<◌, ◌≤◌, List, ◌++◌, length, Result, Ok, Err, IfOk, Bool, true, arith, length-append, append_assoc}
 use Rattle.std.proofs.lemmas.Grind.{common_steps}
 use Rattle.lg_base.specs.declared.allocation.Memory.{Memory}
 use Rattle.packet_frame.specs.declared.packets.FrameFault.{FrameFault}

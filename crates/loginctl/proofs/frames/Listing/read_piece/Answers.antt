@@ -1,4 +1,4 @@
-use Rattle.std.proofs.Common.{◌≡◌, ◌+◌, ◌<◌, ◌≤◌, ◌++◌, ◌∷◌, [], ℕ, zero, suc, refl, ◌↔◌, ◌⊎◌, ⊎_elim, List, take, drop, length, arith, sym, ap, ◌∙◌, subst, append_assoc, length-drop}
+use Rattle.std.proofs.Common.{◌≡◌, ◌+◌, ◌<◌, ◌≤◌, ◌++◌, [], ℕ, zero, suc, refl, ◌↔◌, ◌⊎◌, ⊎_elim, List, take, drop, length, arith, sym, ap, ◌∙◌, subst, append_assoc}
 use Rattle.std.proofs.lemmas.Grind.{common_steps}
 use Rattle.std.proofs.lemmas.List.{take-append-drop}
 use Rattle.packet_frame.specs.Framing.{Framing, IsWhole, front_of, place_of}

@@ -1,4 +1,4 @@
-use Rattle.std.proofs.Common.{◌≡◌, ◌+◌, ◌≤◌, ◌++◌, ℕ, List, length}
+use Rattle.std.proofs.Common.{◌≡◌, ◌+◌, ◌++◌, ℕ, List, length}
 use Rattle.packet_frame.specs.Framing.{place_of}
 use Rattle.loginctl.specs.Listing.{HasRead, IsSteady}
 use Rattle.loginctl.proofs.frames.Listing.read_piece.Given as goal

@@ -1,4 +1,4 @@
-use Rattle.std.proofs.Common.{◌≡◌, ℕ, List, Option}
+use Rattle.std.proofs.Common.{ℕ, List, Option}
 use Rattle.std.specs.Prelude.{string_bytes}
 use Rattle.loginctl.specs.LoginWords.{Choice, choice_of, text_of}
 use Rattle.loginctl.specs.declared.login_words.LoginOption.TheVariants.{Socket, User, Password, Factor2, Factor3}

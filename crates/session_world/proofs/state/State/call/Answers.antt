@@ -6,5 +6,5 @@ pub returns-then-waits_for_call-clause-printed : goal.returns-then-waits_for_cal
 returns-then-waits_for_call-clause-printed c places at =
     printed_so _ _ c.resume.result _ _
     (called_goes (world_of c.args.self.now.table places) c.args.number c.args.calls (places c.args.number) (c.in-Some.ensures places at).1.0 (c.in-Some.ensures places at).1.1
-        (waits_there c.args.number (c.in-Some.ensures places at).1.0 c.in-Some.held _ _ (c.in-Some.ensures places at).1.2 c.waits_for_call.ensures c.if-waits_for_call.true))
+    (waits_there c.args.number (c.in-Some.ensures places at).1.0 c.in-Some.held _ _ (c.in-Some.ensures places at).1.2 c.waits_for_call.ensures c.if-waits_for_call.true))
     (c.resume.ensures.printed places (c.in-Some.ensures places at).1.0 (c.in-Some.ensures places at).1.2)

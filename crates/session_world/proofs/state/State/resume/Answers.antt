@@ -2,7 +2,6 @@ use Rattle.session_world.proofs.Giving.{on_ok}
 use Rattle.session_world.specs.Going.{going}
 use Rattle.session_world.specs.Worlds.{place_of}
 use Rattle.session_world.proofs.state.State.resume.Goals as goal
-use Rattle.std.proofs.Common.{OnOk, IfOk}
 
 pub returns-clause-left : goal.returns-clause-left
 returns-clause-left c places place beside at = on_ok c.keep.result
