@@ -1,6 +1,9 @@
 pub mod Keeping
 pub mod Meaning
 pub mod Moves
+pub mod Names
+pub mod Opened
+pub mod Opening
 pub mod Packets
 pub mod Reaching
 pub mod Responses

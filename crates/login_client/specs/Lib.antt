@@ -10,4 +10,5 @@ pub mod Reading
 pub mod Secrets
 pub mod Talk
 pub mod Talked
+pub mod Whole
 pub mod Zeros

@@ -53,6 +53,6 @@ is_nonce_end _ = false
 
 -- the nonce in the data of a switch: twenty bytes, with or without a 00 behind them
 abbrev pub nonce_of : List ℕ → Option (List ℕ)
-nonce_of «data» =
-    if nat_lt (length «data») 20 then None
-    else (if is_nonce_end (drop 20 «data») then Some (take 20 «data») else None)
+nonce_of body =
+    if nat_lt (length body) 20 then None
+    else (if is_nonce_end (drop 20 body) then Some (take 20 body) else None)

@@ -9,7 +9,9 @@ ghost use Rattle.login_client.specs.declared.ends.ClientAct.TheVariants.{Done};
 ghost use Rattle.login_client.specs.Secrets.{KeepsTo};
 ghost use Rattle.login_client.specs.Talk.{IsWaiting, Leads, Talk};
 ghost use Rattle.login_client.specs.Talked.{AreGot, AreWritten, Talked, result_in, said_by};
-ghost use Rattle.std.specs.Prelude.{◌≡◌, ◌∷◌, [], ◌++◌, ℕ, suc, List, Option, Some};
+ghost use Rattle.login_client.specs.Whole.{AreGiven, Asked, HasSecret, IsLogin, IsTurnedAway, IsWhole};
+ghost use Rattle.login_client.specs.declared.ends.LoginEnd.TheVariants.{Opened, Refused};
+ghost use Rattle.std.specs.Prelude.{◌≡◌, ◌↔◌, ◌⊎◌, ◌∷◌, [], ◌++◌, ℕ, suc, true, All, List, Option, Some};
 
 use crate::claims::Claim;
 use crate::ends::{ClientAct, LoginEnd};
@@ -69,4 +71,26 @@ pub fn logins_end()
 /// after a switch to it or for a further factor.
 pub fn secrets_are_kept()
     ensures { (claim : Claim) (heard : Heard) → KeepsTo claim heard (conversation claim) }
+{}
+
+/// A client is in exactly by the payloads of a whole login that ends with OK, where it gives all that they ask for.
+pub fn opened_logins_are_whole()
+    ensures { (claim : Claim) (got written : List (List ℕ)) →
+        ClientTalk claim got written (Some Opened) ↔ IsWhole claim got written Opened }
+{}
+
+/// A client is refused exactly by an ERR in the greeting's place, or by the payloads of a whole login that ends with
+/// ERR, where it gives all that they ask for; and by the number of that ERR.
+pub fn refused_logins_are_whole()
+    ensures { (claim : Claim) (got written : List (List ℕ)) (number : ℕ) →
+        ClientTalk claim got written (Some (Refused number)) ↔
+        (IsTurnedAway got written number ⊎ IsWhole claim got written (Refused number)) }
+{}
+
+/// Where the server is on this machine, the clear method is permitted and each secret that is asked for is there, a
+/// client that gets the payloads of a whole login gives all that they ask for, and comes to its end.
+pub fn whole_logins_open()
+    ensures { (claim : Claim) (got : List (List ℕ)) (asked : List Asked) (end : LoginEnd) →
+        claim.local ≡ true → claim.options.clear ≡ true → All (HasSecret claim) asked → IsLogin got asked end →
+        (written : List (List ℕ)) × AreGiven claim asked written × ClientTalk claim got written (Some end) }
 {}

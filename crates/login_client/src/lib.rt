@@ -2,7 +2,8 @@
 //!
 //! **[`login`] writes the payloads of the client's talk for the payloads that the server sent, and ends with the
 //! talk's result; a secret is written in the clear only to a server on this machine.** The talk is
-//! `conversation` of specs/Conversation.antt, and `laws` says what it comes to over payloads and packets.
+//! `conversation` of specs/Conversation.antt, and `laws` says what it comes to over payloads and packets: among it
+//! that a client is in exactly by the payloads of a whole login, which specs/Whole.antt lays end to end.
 //!
 //! It follows "Connection Phase" of the MySQL client/server protocol documentation. Below stand `auth_packets`
 //! for the messages, `packet_frame` for packets, `native_scramble` and `caching_sha2` for the answers, and

@@ -101,13 +101,13 @@ pub(crate) fn clear(alloc: Global, secret: &[u8]) -> Result<Bytes, Memory>
 }
 
 /// The nonce in the data of a switch: twenty bytes, with or without a 00 behind them.
-pub(crate) fn nonce_of(data: &[u8]) -> Option<[u8; 20]>
-    ensures { result ≡ nonce_of «data».now }
+pub(crate) fn nonce_of(body: &[u8]) -> Option<[u8; 20]>
+    ensures { result ≡ nonce_of body.now }
 {
-    if data.len() < 20 {
+    if body.len() < 20 {
         return None;
     }
-    let (nonce, end) = data.split_at(20);
+    let (nonce, end) = body.split_at(20);
     if !is_nonce_end(end) {
         return None;
     }
