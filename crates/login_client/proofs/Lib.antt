@@ -1,3 +1,4 @@
+pub mod Due
 pub mod Keeping
 pub mod Meaning
 pub mod Moves

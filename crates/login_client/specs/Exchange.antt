@@ -1,6 +1,6 @@
 -- A talk over a connection: the payloads stand in packets, whose sequence ids rise by one over both directions
 -- ("MySQL Packets" of the MySQL client/server protocol documentation).
-use Rattle.std.specs.Prelude.{◌≡◌, ℕ, zero, suc, ◌+◌, List, [], ◌++◌, length, take, Option, Some, None}
+use Rattle.std.specs.Prelude.{◌≡◌, ◌⊎◌, ℕ, zero, suc, ◌+◌, List, [], ◌++◌, length, take, Option, Some, None}
 use Rattle.lg_outside.specs.Traffic.{Traffic}
 use Rattle.packet_frame.specs.Packets.{id_after, IsPacket}
 use Rattle.packet_frame.specs.Streams.{Ending, Between, Cut, Faulty, IsEnding}
@@ -90,3 +90,7 @@ pub data EndsAs (talk : Talk) (id place : ℕ) (before after : Option Traffic) (
   -- there was no memory, maybe for bytes that were read already, or for a packet that was due
   no_memory : (got more sent : List ℕ) (count : ℕ) (stand : Stand) → Moved before after (got ++ more) (take count sent)
       → IsExchange talk id place got sent stand → EndsAs talk id place before after Rises Memory
+
+-- a login ended as was due, unless the link failed or there was no memory
+abbrev pub EndsAsDue : LoginEnd → (Rises : Type 0) → LoginEnd → Type 0
+EndsAsDue due Rises end = (end ≡ due) ⊎ (((end ≡ LinkFault) × Rises) ⊎ (end ≡ Memory))

@@ -1,9 +1,11 @@
 //! Laws of a client's talk, for the crates that stand on this one. The functions do nothing: what they say is in
 //! their contracts.
 
+ghost use Rattle.lg_outside.specs.Faults.{Rose};
+ghost use Rattle.lg_outside.specs.Traffic.{Traffic};
 ghost use Rattle.login_client.specs.Acting.{Acts};
 ghost use Rattle.login_client.specs.Conversation.{ClientTalk, conversation};
-ghost use Rattle.login_client.specs.Exchange.{EndsWithin, IsDecided, IsExchange, Stand};
+ghost use Rattle.login_client.specs.Exchange.{Ends, EndsAs, EndsAsDue, EndsWithin, IsDecided, IsExchange, Stand};
 ghost use Rattle.login_client.specs.Hearing.{IsHeard};
 ghost use Rattle.login_client.specs.declared.ends.ClientAct.TheVariants.{Done};
 ghost use Rattle.login_client.specs.Secrets.{KeepsTo};
@@ -93,4 +95,12 @@ pub fn whole_logins_open()
     ensures { (claim : Claim) (got : List (List ℕ)) (asked : List Asked) (end : LoginEnd) →
         claim.local ≡ true → claim.options.clear ≡ true → All (HasSecret claim) asked → IsLogin got asked end →
         (written : List (List ℕ)) × AreGiven claim asked written × ClientTalk claim got written (Some end) }
+{}
+
+/// What the server sends decides how a login over a link ends: where its bytes begin with an exchange that comes to an
+/// end, the login comes to that end, unless the link failed or there was no memory.
+pub fn logins_end_as_due()
+    ensures { (claim : Claim) (id place faults rose : ℕ) (before : Traffic) (after : Option Traffic) (got behind sent : List ℕ) (due end : LoginEnd) →
+        IsExchange (conversation claim) id place got sent (Ends due) → before.left ≡ got ++ behind →
+        EndsAs (conversation claim) id place (Some before) after (Rose faults rose) end → EndsAsDue due (Rose faults rose) end }
 {}
