@@ -1,0 +1,6 @@
+pub mod Heard
+pub mod Told
+pub mod Saying
+pub mod Endings
+pub mod OverBytes
+pub mod Closing
