@@ -1,173 +1,243 @@
-//! Sessions of a world, each line as it is printed: a login with the native method, whole and byte by byte,
-//! and peers that close the connection or whose link fails.
+//! Scripts as a world runs them, each line as it is printed: logins, ends and idle events, sessions beside one another,
+//! and packets however they are cut.
 
-use crate::calls::{Calls, Peer};
-use crate::held::Held;
-use crate::table::Table;
-use crate::world::{go, is_peer_there, open, waits_for_call, with_bytes, with_peer};
-use account_history::Opening;
-use account_rules::Settings;
-use lg_base::{Bytes, Memory, Out};
+use crate::worlds::World;
+use lg_base::{Memory, Out};
+use script_text::{Event, Script};
 use std::alloc::Global;
+use std::process::Abort;
 use std::test::Fail;
 
-const SETTINGS: Settings = Settings {
-    lifetime: 0,
-    disconnect: true,
-    history: 0,
-    reuse: 0,
-};
+/// A response of `root`, which has no password, as a packet.
+const EMPTY: &[u8] =
+    b"3c0000010082080000000001ff0000000000000000000000000000000000000000000000726f6f74000063616368696e675f736861325f70617373776f726400";
 
-const GREETED: &[u8] =
-    b"send 1 0 0a382e302e302d6c6f67696e000100000030303030303030300008a2ff0200781015000000000000000000003030303030303030303030310063616368696e675f736861325f70617373776f726400\n";
+/// What a session with that response prints.
+const EMPTY_TEXT: &[u8] =
+    b"send 1 0 0a382e302e302d6c6f67696e000100000030303030303030300008a2ff0200781015000000000000000000003030303030303030303030310063616368696e675f736861325f70617373776f726400\n\
+entry 1 observe 726f6f74\n\
+entry 2 attempt 726f6f74 opened\n\
+send 1 2 00000002000000\n\
+end 2\n";
 
-const OBSERVED: &[u8] = b"entry 1 observe 6e6174\n";
-
-const OPENED: &[u8] = b"entry 2 attempt 6e6174 opened\nsend 1 2 00000002000000\n";
-
-/// A response of `nat` with the right answer for the first nonce, as a packet.
-const RIGHT: &[u8] =
+/// A response of `nat`, whose password is `password`, to the first nonce, as a packet.
+const NATIVE: &[u8] =
     b"4f0000010082080000000001ff00000000000000000000000000000000000000000000006e61740014b9a6964d049b4f3f0f2778bd5819001f57a42dd26d7973716c5f6e61746976655f70617373776f726400";
 
-/// A world with the native account `nat`, whose password is `password`.
-fn table_of(alloc: Global) -> Result<Table, Memory> {
-    let nat = Opening {
-        user: Bytes::copy(alloc, b"nat")?,
-        password: Bytes::copy(alloc, b"password")?,
-    };
-    Table::new(alloc, &[nat], SETTINGS)
+const NATIVE_TEXT: &[u8] =
+    b"send 1 0 0a382e302e302d6c6f67696e000100000030303030303030300008a2ff0200781015000000000000000000003030303030303030303030310063616368696e675f736861325f70617373776f726400\n\
+entry 1 observe 6e6174\n\
+entry 2 attempt 6e6174 opened\n\
+send 1 2 00000002000000\n\
+end 2\n";
+
+/// A password is expired a day after the start.
+const LIFETIME: &[u8] = b"set lifetime 1\n\
+clock 86400\n\
+open 1\n\
+bytes 1 3c0000010082080000000001ff0000000000000000000000000000000000000000000000726f6f74000063616368696e675f736861325f70617373776f726400\n\
+run 1\n\
+end\n";
+
+const LIFETIME_TEXT: &[u8] =
+    b"send 1 0 0a382e302e302d6c6f67696e000100000030303030303030300008a2ff0200781015000000000000000000003030303030303030303030310063616368696e675f736861325f70617373776f726400\n\
+entry 1 observe 726f6f74\n\
+entry 2 attempt 726f6f74 mustchange\n\
+send 1 2 ff4607234859303030596f75722070617373776f72642068617320657870697265643b206c6f6720696e2077697468206120636c69656e74207468617420737570706f72747320657870697265642070617373776f726473\n\
+ended 1 refused 1862\n\
+end 2\n";
+
+const TWO_SESSIONS: &[u8] = b"open 1\n\
+open 2\n\
+bytes 2 3c0000010082080000000001ff0000000000000000000000000000000000000000000000726f6f74000063616368696e675f736861325f70617373776f726400\n\
+bytes 1 3c0000010082080000000001ff0000000000000000000000000000000000000000000000726f6f74000063616368696e675f736861325f70617373776f726400\n\
+step 2\n\
+step 1\n\
+step 1\n\
+step 2\n\
+step 1\n\
+end\n";
+
+const TWO_SESSIONS_TEXT: &[u8] =
+    b"send 1 0 0a382e302e302d6c6f67696e000100000030303030303030300008a2ff0200781015000000000000000000003030303030303030303030310063616368696e675f736861325f70617373776f726400\n\
+send 2 0 0a382e302e302d6c6f67696e000200000030303030303030300008a2ff0200781015000000000000000000003030303030303030303030320063616368696e675f736861325f70617373776f726400\n\
+entry 1 observe 726f6f74\n\
+entry 2 observe 726f6f74\n\
+entry 3 attempt 726f6f74 opened\n\
+send 1 2 00000002000000\n\
+entry 4 attempt 726f6f74 opened\n\
+send 2 2 00000002000000\n\
+idle 1\n\
+end 4\n";
+
+const CLOSE: &[u8] = b"open 1\n\
+close 1\n\
+end\n";
+
+const CLOSE_TEXT: &[u8] =
+    b"send 1 0 0a382e302e302d6c6f67696e000100000030303030303030300008a2ff0200781015000000000000000000003030303030303030303030310063616368696e675f736861325f70617373776f726400\n\
+ended 1 closed\n\
+end 0\n";
+
+/// The peer closes within a packet.
+const CLOSE_CUT: &[u8] = b"open 1\n\
+bytes 1 3c00\n\
+close 1\n\
+end\n";
+
+const CLOSE_CUT_TEXT: &[u8] =
+    b"send 1 0 0a382e302e302d6c6f67696e000100000030303030303030300008a2ff0200781015000000000000000000003030303030303030303030310063616368696e675f736861325f70617373776f726400\n\
+ended 1 closed cut\n\
+end 0\n";
+
+const LINK_FAULT: &[u8] = b"open 1\n\
+cut 1\n\
+end\n";
+
+const LINK_FAULT_TEXT: &[u8] =
+    b"send 1 0 0a382e302e302d6c6f67696e000100000030303030303030300008a2ff0200781015000000000000000000003030303030303030303030310063616368696e675f736861325f70617373776f726400\n\
+ended 1 linkfault\n\
+end 0\n";
+
+/// A packet with a sequence id that isn't the next one.
+const WRONG_ID: &[u8] = b"open 1\n\
+bytes 1 3c0000050082080000000001ff0000000000000000000000000000000000000000000000726f6f74000063616368696e675f736861325f70617373776f726400\n\
+end\n";
+
+const WRONG_ID_TEXT: &[u8] =
+    b"send 1 0 0a382e302e302d6c6f67696e000100000030303030303030300008a2ff0200781015000000000000000000003030303030303030303030310063616368696e675f736861325f70617373776f726400\n\
+send 1 2 ff8404233038533031476f74207061636b657473206f7574206f66206f72646572\n\
+ended 1 bad 1156 0\n\
+end 0\n";
+
+/// Events before a session begins, in it and after its end, and then a further session.
+const IDLE: &[u8] = b"step 1\n\
+bytes 1 00\n\
+close 1\n\
+open 1\n\
+open 1\n\
+run 1\n\
+cut 1\n\
+bytes 1 00\n\
+close 1\n\
+cut 1\n\
+step 1\n\
+open 2\n\
+end\n";
+
+/// The further session has the second nonce.
+const IDLE_TEXT: &[u8] = b"idle 1\n\
+idle 1\n\
+idle 1\n\
+send 1 0 0a382e302e302d6c6f67696e000100000030303030303030300008a2ff0200781015000000000000000000003030303030303030303030310063616368696e675f736861325f70617373776f726400\n\
+idle 1\n\
+idle 1\n\
+ended 1 linkfault\n\
+idle 1\n\
+idle 1\n\
+idle 1\n\
+idle 1\n\
+send 2 0 0a382e302e302d6c6f67696e000200000030303030303030300008a2ff0200781015000000000000000000003030303030303030303030320063616368696e675f736861325f70617373776f726400\n\
+end 0\n";
+
+fn begun(alloc: Global, script: &Script) -> Result<World, Memory> {
+    World::new(alloc, script.setup())
 }
 
-/// A world, and what it has printed.
-#[derive(Drop)]
-struct Printed {
-    alloc: Global,
-    table: Table,
-    out: Out,
+fn happens(world: &mut World, event: &Event, out: &mut Out) -> Result<(), Memory> {
+    world.step(event, out)
 }
 
-fn begun(alloc: Global) -> Result<Printed, Memory> {
-    Ok(Printed {
-        alloc,
-        table: table_of(alloc)?,
-        out: Out::new(alloc),
-    })
+fn ends(world: &World, out: &mut Out) -> Result<(), Memory> {
+    world.finish(out)
 }
 
-fn opened(world: &mut Printed) -> Result<Held, Memory> {
-    open(world.alloc, 1, &mut world.table, &mut world.out)
-}
-
-fn goes(world: &mut Printed, held: Held, calls: Calls) -> Result<Held, Memory> {
-    go(world.alloc, held, calls, &mut world.table, &mut world.out)
-}
-
-/// Bytes come from the peer of a session, which then goes on.
-fn sends(world: &mut Printed, held: Held, bytes: &[u8]) -> Result<Held, Memory> {
-    let held = with_bytes(held, bytes)?;
-    goes(world, held, Calls::Nothing)
-}
-
-/// Bytes come one by one.
-fn sends_slowly(world: &mut Printed, first: Held, bytes: &[u8]) -> Result<Held, Memory> {
-    let mut held = first;
-    for byte in bytes {
-        held = sends(world, held, &[*byte])?;
+/// What a script prints.
+fn printed(alloc: Global, text: &[u8]) -> Result<Out, Fail> {
+    let script = Script::read(alloc, text)?;
+    let mut world = begun(alloc, &script)?;
+    let mut out = Out::new(alloc);
+    'events: for event in script.events() {
+        happens(&mut world, event, &mut out)?;
     }
-    Ok(held)
+    ends(&world, &mut out)?;
+    Ok(out)
 }
 
-/// The peer stands otherwise.
-fn leaves(world: &mut Printed, held: Held, peer: Peer) -> Result<Held, Memory> {
-    goes(world, with_peer(held, peer), Calls::Nothing)
+/// A script prints this.
+fn prints(rt: &impl Abort, alloc: Global, text: &[u8], wanted: &[u8]) -> Result<(), Fail> {
+    let out = printed(alloc, text)?;
+    assert!(rt; out.as_slice() == wanted);
+    Ok(())
 }
 
-/// Whether these three texts are what was printed.
-fn is_printed(world: &Printed, first: &[u8], second: &[u8], third: &[u8]) -> Result<bool, Memory> {
-    let mut text = Out::new(world.alloc);
-    text.bytes(first)?;
-    text.bytes(second)?;
-    text.bytes(third)?;
-    Ok(world.out.as_slice() == text.as_slice())
+/// A script of one session, whose packet comes in two pieces.
+fn in_two(alloc: Global, before: &[u8], behind: &[u8]) -> Result<Out, Memory> {
+    let mut text = Out::new(alloc);
+    text.bytes(b"open 1\nbytes 1 ")?;
+    text.bytes(before)?;
+    text.bytes(b"\nbytes 1 ")?;
+    text.bytes(behind)?;
+    text.bytes(b"\nrun 1\nend\n")?;
+    Ok(text)
 }
 
-fn right_response(alloc: Global) -> Result<Vec<u8>, Fail> {
-    Ok(hex::decode(alloc, RIGHT)?)
-}
-
-fn waits(held: &Held) -> bool {
-    waits_for_call(held)
-}
-
-fn is_there(held: &Held) -> bool {
-    is_peer_there(held)
-}
-
-/// A session whose client has responded.
-fn responded(world: &mut Printed) -> Result<Held, Fail> {
-    let bytes = right_response(world.alloc)?;
-    let held = opened(world)?;
-    Ok(sends(world, held, bytes.as_slice())?)
+/// A script of one session of `nat`, whose packet comes byte by byte.
+fn byte_by_byte(alloc: Global, packet: &[u8]) -> Result<Out, Memory> {
+    let mut text = Out::new(alloc);
+    text.bytes(b"account 6e6174 70617373776f7264\nopen 1\n")?;
+    'bytes: for byte in packet.chunks_exact(2) {
+        text.bytes(b"bytes 1 ")?;
+        text.bytes(byte)?;
+        text.byte(b'\n')?;
+    }
+    text.bytes(b"run 1\nend\n")?;
+    Ok(text)
 }
 
 #[test]
-fn a_response_waits_for_the_accounts(rt: HostRuntime) -> Result<(), Fail> {
-    let mut world = begun(rt.alloc())?;
-    let held = responded(&mut world)?;
-    assert!(rt; is_printed(&world, GREETED, b"", b"")?);
-    assert!(rt; waits(&held));
+fn a_packet_may_be_cut_at_every_place(rt: HostRuntime) -> Result<(), Fail> {
+    for bytes in 1..EMPTY.len() / 2 {
+        let (before, behind) = EMPTY.split_at(2 * bytes);
+        let text = in_two(rt.alloc(), before, behind)?;
+        prints(&rt, rt.alloc(), text.as_slice(), EMPTY_TEXT)?;
+    }
     Ok(())
 }
 
 #[test]
-fn a_look_is_one_call(rt: HostRuntime) -> Result<(), Fail> {
-    let mut world = begun(rt.alloc())?;
-    let held = responded(&mut world)?;
-    let held = goes(&mut world, held, Calls::One)?;
-    assert!(rt; is_printed(&world, GREETED, OBSERVED, b"")?);
-    assert!(rt; waits(&held));
-    Ok(())
+fn a_packet_may_come_byte_by_byte(rt: HostRuntime) -> Result<(), Fail> {
+    let text = byte_by_byte(rt.alloc(), NATIVE)?;
+    prints(&rt, rt.alloc(), text.as_slice(), NATIVE_TEXT)
 }
 
 #[test]
-fn a_settling_opens_the_session(rt: HostRuntime) -> Result<(), Fail> {
-    let mut world = begun(rt.alloc())?;
-    let held = responded(&mut world)?;
-    let held = goes(&mut world, held, Calls::All)?;
-    assert!(rt; is_printed(&world, GREETED, OBSERVED, OPENED)?);
-    assert!(rt; !waits(&held));
-    Ok(())
+fn an_expired_password_must_be_changed(rt: HostRuntime) -> Result<(), Fail> {
+    prints(&rt, rt.alloc(), LIFETIME, LIFETIME_TEXT)
 }
 
 #[test]
-fn the_cutting_of_bytes_changes_nothing(rt: HostRuntime) -> Result<(), Fail> {
-    let mut world = begun(rt.alloc())?;
-    let bytes = right_response(rt.alloc())?;
-    let held = opened(&mut world)?;
-    let held = sends_slowly(&mut world, held, bytes.as_slice())?;
-    let held = goes(&mut world, held, Calls::All)?;
-    assert!(rt; is_printed(&world, GREETED, OBSERVED, OPENED)?);
-    assert!(rt; is_there(&held));
-    Ok(())
+fn sessions_stand_beside_one_another(rt: HostRuntime) -> Result<(), Fail> {
+    prints(&rt, rt.alloc(), TWO_SESSIONS, TWO_SESSIONS_TEXT)
 }
 
 #[test]
 fn a_peer_that_closes_ends_the_session(rt: HostRuntime) -> Result<(), Fail> {
-    let mut world = begun(rt.alloc())?;
-    let held = opened(&mut world)?;
-    let held = sends(&mut world, held, &[0x3c, 0x00])?;
-    let held = leaves(&mut world, held, Peer::Closed)?;
-    assert!(rt; is_printed(&world, GREETED, b"ended 1 closed cut\n", b"")?);
-    assert!(rt; !is_there(&held));
-    Ok(())
+    prints(&rt, rt.alloc(), CLOSE, CLOSE_TEXT)?;
+    prints(&rt, rt.alloc(), CLOSE_CUT, CLOSE_CUT_TEXT)
 }
 
 #[test]
 fn a_link_that_fails_ends_the_session(rt: HostRuntime) -> Result<(), Fail> {
-    let mut world = begun(rt.alloc())?;
-    let held = opened(&mut world)?;
-    let held = leaves(&mut world, held, Peer::Failed)?;
-    assert!(rt; is_printed(&world, GREETED, b"ended 1 linkfault\n", b"")?);
-    assert!(rt; !is_there(&held));
-    Ok(())
+    prints(&rt, rt.alloc(), LINK_FAULT, LINK_FAULT_TEXT)
+}
+
+#[test]
+fn a_wrong_sequence_id_ends_the_session(rt: HostRuntime) -> Result<(), Fail> {
+    prints(&rt, rt.alloc(), WRONG_ID, WRONG_ID_TEXT)
+}
+
+#[test]
+fn an_idle_event_draws_no_nonce(rt: HostRuntime) -> Result<(), Fail> {
+    prints(&rt, rt.alloc(), IDLE, IDLE_TEXT)
 }
