@@ -13,7 +13,7 @@ use Rattle.session_world.specs.declared.held.Held.{Held}
 use Rattle.session_world.specs.Going.{Common, going}
 use Rattle.script_text.specs.declared.event.Event.{Event}
 use Rattle.session_world.specs.Standing.{Mirrors}
-use Rattle.session_world.specs.declared.worlds.World.{World as Kept}
+use Rattle.session_world.specs.declared.world.World.{World as Kept}
 use Rattle.session_world.specs.Sessions.{AreBeside, Follows, ShowsBeside, world_of}
 use Rattle.session_world.specs.Worlds.{AreAt, GoesOn, Happened, IsAt, IsIdle, Place, Shows, World, calling, going_on, happens, idle, is_there, leaving, more_at, moved, sending, waits, with_place}
 

@@ -6,7 +6,7 @@ use Rattle.script_text.specs.declared.event.Event.{Event}
 use Rattle.session_world.specs.Printing.{end_line}
 use Rattle.session_world.specs.Worlds as world
 use Rattle.session_world.specs.Worlds.{AreAt, after_all, new_world, text_of}
-use Rattle.session_world.specs.declared.worlds.World.{World}
+use Rattle.session_world.specs.declared.world.World.{World}
 
 -- what is kept is this world
 pub record Mirrors (kept : World) (w : world.World) : Type 0 where

@@ -13,6 +13,7 @@ pub mod calls;
 pub mod going;
 pub mod held;
 pub mod inbox;
+pub mod keeping;
 pub mod laws;
 mod printing;
 pub mod sessions;
@@ -22,8 +23,7 @@ pub mod table;
 mod tests;
 pub mod turns;
 pub mod world;
-pub mod worlds;
 
 pub use calls::{Calls, Peer};
 pub use script_text::{Event, Script, ScriptFault, Setup};
-pub use worlds::World;
+pub use world::World;

@@ -12,7 +12,7 @@ use crate::held::Held;
 use crate::printing::print_idle;
 use crate::sessions::{keep, take};
 use crate::table::Table;
-use crate::world::{go, is_peer_there, open, waits_for_call, with_bytes, with_peer};
+use crate::keeping::{go, is_peer_there, open, waits_for_call, with_bytes, with_peer};
 use lg_base::{Memory, Out};
 use script_text::Event;
 use std::alloc::Global;

@@ -1,7 +1,7 @@
 //! Scripts as a world runs them, each line as it is printed: logins, ends and idle events, sessions beside one another,
 //! and packets however they are cut.
 
-use crate::worlds::World;
+use crate::world::World;
 use lg_base::{Memory, Out};
 use script_text::{Event, Script};
 use std::alloc::Global;

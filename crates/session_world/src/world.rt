@@ -1,116 +1,73 @@
-//! What an event does to one session of a world.
+//! A world as a whole: the events of a script happen in it one by one.
 
-ghost use Rattle.session_talk.specs.Logins as login;
-ghost use Rattle.session_engine.specs.Standing.{talk_of_session};
-ghost use Rattle.session_world.specs.Going.{going};
-ghost use Rattle.session_world.specs.Printing.{lines_text};
-ghost use Rattle.session_world.specs.Worlds.{IsAt, Place, is_call, is_open_by, is_there, more_at, no_bytes, place_of, waits};
-ghost use Rattle.session_world.specs.declared.calls.Calls.TheVariants as allowed;
-ghost use Rattle.session_world.specs.declared.calls.Peer.TheVariants as peer;
-ghost use Rattle.std.specs.Prelude.{◌≡◌, ◌++◌, ℕ, IfOk, OnOk};
+ghost use Rattle.script_text.specs.Reading.{IsSetup};
+ghost use Rattle.session_world.specs.Standing.{HasFailed, Mirrors, last_text};
+ghost use Rattle.session_world.specs.Worlds as world;
+ghost use Rattle.session_world.specs.Worlds.{happens, new_world};
+ghost use Rattle.std.specs.Prelude.{◌≡◌, ◌++◌, IfOk, OnErr, OnOk, IsErr};
 
-use crate::calls::{Calls, Peer};
-use crate::going::go_on;
-use crate::held::Held;
-use crate::inbox::Inbox;
+use crate::printing::print_last;
+use crate::state::State;
 use crate::table::Table;
-use crate::turns::{Seat, begin};
 use lg_base::{Memory, Out};
-use session_engine::Session;
-use session_talk::Ask;
+use script_text::{Event, Setup};
 use std::alloc::Global;
+use std::collections::BTreeMap;
 
-/// A session goes on with what an event allows.
-pub fn go(
+/// Accounts with their history, a clock, draws, and sessions by their numbers.
+#[derive(Drop)]
+pub struct World {
+    state: State,
+    failed: bool,
     alloc: Global,
-    held: Held,
-    calls: Calls,
-    table: &mut Table,
-    out: &mut Out,
-) -> Result<Held, Memory>
-    ensures there { (number : ℕ) (place : Place) → IsAt number place held → IfOk result (IsAt number (place_of place.peer (going place.peer calls table.old place.next place.at place.unread))) }
-    ensures common { (number : ℕ) (place : Place) → IsAt number place held → OnOk result (table.new ≡ (going place.peer calls table.old place.next place.at place.unread).common) }
-    ensures printed { (number : ℕ) (place : Place) → IsAt number place held → OnOk result (out.new ≡ out.old ++ lines_text number (going place.peer calls table.old place.next place.at place.unread).lines) }
-{
-    let Held { mut seat, asks, .. } = held;
-    let asks = go_on(alloc, &mut seat, asks, calls, table, out)?;
-    Ok(Held { seat, asks })
 }
 
-/// A session whose nonce is drawn and whose greeting is sent.
-#[tactic(auto, using(crate::proofs::Kept::is_begun_of))]
-pub fn open(alloc: Global, number: u32, table: &mut Table, out: &mut Out) -> Result<Held, Memory>
-    ensures there { IfOk result (IsAt number (place_of peer.Open (going peer.Open allowed.Nothing table.old 0 (login.session number) no_bytes))) }
-    ensures common { OnOk result (table.new ≡ (going peer.Open allowed.Nothing table.old 0 (login.session number) no_bytes).common) }
-    ensures printed { OnOk result (out.new ≡ out.old ++ lines_text number (going peer.Open allowed.Nothing table.old 0 (login.session number) no_bytes).lines) }
-{
-    let mut seat = Seat {
-        number,
-        peer: Peer::Open,
-        session: Session::new(alloc, number),
-        inbox: Inbox::new(alloc),
-    };
-    let asks = begin(&mut seat, table, out)?;
-    go(alloc, Held { seat, asks }, Calls::Nothing, table, out)
-}
-
-/// Further bytes came to a session.
-pub fn with_bytes(held: Held, bytes: &[u8]) -> Result<Held, Memory>
-    ensures { (number : ℕ) (place : Place) → IsAt number place held → IfOk result (IsAt number (more_at place bytes.now)) }
-{
-    let Held { mut seat, asks, .. } = held;
-    seat.inbox.add(bytes)?;
-    Ok(Held { seat, asks })
-}
-
-/// A session whose peer stands otherwise.
-pub fn with_peer(held: Held, peer: Peer) -> Held
-    ensures { (number : ℕ) (place : Place) → IsAt number place held → IsAt number (record place { peer = peer }) result }
-{
-    let Held { mut seat, asks, .. } = held;
-    seat.peer = peer;
-    Held { seat, asks }
-}
-
-/// Whether something is asked, and the peer is there.
-fn is_open(asks: &Ask, peer: Peer) -> bool
-    ensures { result ≡ is_open_by asks.now peer }
-{
-    match (asks, peer) {
-        (Ask::Ended(_), _) => false,
-        (_, Peer::Open) => true,
-        (_, Peer::Closed) => false,
-        (_, Peer::Failed) => false,
+impl World {
+    /// The world of a start, before any event.
+    pub fn new(alloc: Global, setup: &Setup) -> Result<World, Memory>
+        requires { IsSetup setup.now }
+        ensures { IfOk result (λ made. Mirrors made (new_world (setup.now).accounts (setup.now).settings)) }
+    {
+        let table = Table::new(alloc, setup.accounts.as_slice(), setup.settings)?;
+        let state = State {
+            table,
+            sessions: BTreeMap::new(alloc),
+        };
+        Ok(World {
+            state,
+            failed: false,
+            alloc,
+        })
     }
-}
 
-/// Whether bytes and the end still come to a session: it hasn't ended, and its peer is there.
-#[tactic(auto, using(crate::proofs::Kept::peer_asked))]
-pub fn is_peer_there(held: &Held) -> bool
-    ensures { result ≡ is_there (talk_of_session held.now.seat.session) held.now.seat.peer }
-{
-    is_open(&held.asks, held.seat.peer)
-}
-
-fn is_account_call(asks: &Ask) -> bool
-    ensures { result ≡ is_call asks.now }
-{
-    match asks {
-        Ask::Read { .. } => false,
-        Ask::Draw => false,
-        Ask::Observe(_) => true,
-        Ask::Renew(_) => true,
-        Ask::Check { .. } => false,
-        Ask::Settle { .. } => true,
-        Ask::SettleLocked { .. } => true,
-        Ask::Ended(_) => false,
+    /// An event happens, and its lines are added to `out`. After `Memory` no line is added, and the world has failed:
+    /// each further event is answered so.
+    #[tactic(auto, unfolding(crate::specs::Standing::HasFailed))]
+    pub fn step(&mut self, event: &Event, out: &mut Out) -> Result<(), Memory>
+        ensures left { (w : world.World) → Mirrors self.old w → OnOk result (Mirrors self.new (happens w event.now).world) }
+        ensures printed { (w : world.World) → Mirrors self.old w → OnOk result (out.new ≡ out.old ++ (happens w event.now).text) }
+        ensures unprinted { OnErr result (out.new ≡ out.old) }
+        ensures failed { OnErr result (HasFailed self.new) }
+        ensures stays { HasFailed self.old → IsErr result }
+    {
+        if self.failed {
+            return Err(Memory);
+        }
+        self.failed = true;
+        let mut lines = Out::new(self.alloc);
+        self.state.happen(self.alloc, event, &mut lines)?;
+        out.bytes(lines.as_slice())?;
+        self.failed = false;
+        Ok(())
     }
-}
 
-/// Whether a session waits for a call of the account store.
-#[tactic(auto, using(crate::proofs::Kept::waits_asked))]
-pub fn waits_for_call(held: &Held) -> bool
-    ensures { result ≡ waits (talk_of_session held.now.seat.session) }
-{
-    is_account_call(&held.asks)
+    /// Adds the last line: how many entries the history has. After `Memory` nothing is added.
+    pub fn finish(&self, out: &mut Out) -> Result<(), Memory>
+        ensures printed { (w : world.World) → Mirrors self.now w → OnOk result (out.new ≡ out.old ++ last_text w) }
+        ensures unprinted { OnErr result (out.new ≡ out.old) }
+    {
+        let mut line = Out::new(self.alloc);
+        print_last(&mut line, self.state.table.entries())?;
+        out.bytes(line.as_slice())
+    }
 }

@@ -2,7 +2,7 @@ use Rattle.std.proofs.Common.{ap, ◌∙◌, subst, List, ℕ, ◌++◌}
 use Rattle.session_world.proofs.Happening.{same_event}
 use Rattle.session_world.specs.Sessions.{Follows, world_of}
 use Rattle.session_world.specs.Worlds.{Happened, happens}
-use Rattle.session_world.proofs.worlds.World.step.Goals as goal
+use Rattle.session_world.proofs.world.World.step.Goals as goal
 
 pub returns-clause-printed : goal.returns-clause-printed
 returns-clause-printed c w m =

@@ -11,7 +11,7 @@ use Rattle.session_world.specs.declared.held.Held.{Held}
 use Rattle.session_world.specs.declared.turns.Seat.{Seat}
 use Rattle.session_world.proofs.Giving.{on_ok}
 use Rattle.session_world.proofs.Kept.{begun_so, place_same}
-use Rattle.session_world.proofs.world.open.Goals as goal
+use Rattle.session_world.proofs.keeping.open.Goals as goal
 
 -- where the session stands once it has begun
 there : goal.After-go → Place
