@@ -1,13 +1,18 @@
 -- The laws of how a client ends, whole.
-use Rattle.std.proofs.Common.{subst, inl, Option}
+use Rattle.std.proofs.Common.{◌≡◌, refl, sym, ap, ◌∙◌, subst, inl, inr, ℕ, Bool, true, false, List, ◌++◌, Option, Some, append_assoc}
 use Rattle.account_history.specs.declared.entries.Reply.{Reply}
 use Rattle.session_talk.specs.Logins.{session}
-use Rattle.both_ends.specs.Laws.{OpenedByReply, RefusedByError}
-use Rattle.both_ends.specs.Meeting.{Opens, first_reply, payloads_of, sent_by}
+use Rattle.login_client.specs.Conversation.{ClientTalk, conversation}
+use Rattle.login_client.specs.Talk.{Over}
+use Rattle.login_client.specs.declared.claims.Claim.{Claim}
+use Rattle.login_client.specs.declared.ends.LoginEnd.{LoginEnd}
+use Rattle.login_client.proofs.Meaning.{client-talk-one}
+use Rattle.both_ends.specs.Laws.{EndedByReply, OpenedByReply, RefusedByError}
+use Rattle.both_ends.specs.Meeting.{EndsBy, EndsOver, Opens, end_told, first_reply, payloads_of, sent_by}
+use Rattle.both_ends.proofs.Agreeing.{Ends, goes-along, session-along}
 use Rattle.both_ends.proofs.Endings.{ErrorAfter, IsNoOk, IsTrueError, OkAfter, error-no-ok, error-owed, error-true, ok-owed, opened-by, refused-by}
-use Rattle.both_ends.proofs.OverBytes.{entered, packets_of, transcript-each}
+use Rattle.both_ends.proofs.OverBytes.{entered, fault_of, packets_of, told_of, transcript-each, transcript-sent}
 use Rattle.both_ends.proofs.Saying.{IsEither}
-use Rattle.std.proofs.Common.{sym}
 
 pub opened-by-reply : OpenedByReply
 opened-by-reply = record {
@@ -27,4 +32,43 @@ refused-by-error = record {
       let packets = packets_of id bytes t.owns in
       let each = transcript-each (IsEither IsTrueError ErrorAfter (first_reply t.owns)) id peer bytes entries sent how t (λ error. inl (error-true error)) (error-owed id packets t.owns) in
       refused-by (first_reply t.owns) (payloads_of sent) each claim got written number begins talk;
+}
+
+-- ## By the reply
+
+some-is : (a b : LoginEnd) → Some a ≡ Some b → a ≡ b
+some-is a b e = cc
+
+not-both : (b : Bool) → b ≡ true → b ≡ false → ⊥
+not-both b e f = cc
+
+-- of one talk that ends so, each does
+ends-over : (claim : Claim) (reply : Reply) (got : List (List ℕ)) → Ends claim (conversation claim) reply got → EndsOver claim reply got
+ends-over claim reply got (written, how, leads, by) = record {
+  there_is = (written, how, talk);
+  each = λ others result other. (how, sym (client-talk-one claim got written others (Some how) result talk other).1, by);
+  local = λ local others result other.
+      sym (client-talk-one claim got written others (Some how) result talk other).1 ∙ ap (λ (h : LoginEnd). Some h) (told local by);
+} where
+  talk : ClientTalk claim got written (Some how)
+  talk = record { now = Over how; leads = leads; result_is = refl }
+
+  told : claim.local ≡ true → EndsBy claim reply how → how ≡ end_told reply
+  told local (inl is) = is
+  told local (inr gave) = absurd (not-both claim.local local gave.0)
+
+pub ended-by-reply : EndedByReply
+ended-by-reply = record {
+  over_packets = λ id packets owns reply claim more small nonces used found.
+      ends-over claim reply (sent_by id packets owns ++ more)
+      (goes-along claim reply more (session id) (conversation claim) 0 packets owns (session-along claim id small) nonces used found);
+  over_bytes = λ id peer bytes entries sent how reply claim more t small nonces found.
+      let packets = packets_of id bytes t.owns in
+      let told = told_of (fault_of id bytes t.owns) in
+      let enters = entered (session id) 0 packets t.owns entries t.entered in
+      let all : payloads_of sent ++ more ≡ sent_by id packets t.owns ++ (told ++ more) =
+      ap (λ (l : List (List ℕ)). l ++ more) (transcript-sent id peer bytes entries sent how t) ∙ append_assoc (sent_by id packets t.owns) told more in
+      subst (λ (l : List (List ℕ)). EndsOver claim reply l) (sym all)
+      (ends-over claim reply (sent_by id packets t.owns ++ (told ++ more))
+      (goes-along claim reply (told ++ more) (session id) (conversation claim) 0 packets t.owns (session-along claim id small) nonces enters.1 (sym enters.0 ∙ found)));
 }

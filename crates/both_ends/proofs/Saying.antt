@@ -129,8 +129,8 @@ module _ (P : List ℕ → Type 0) (Q : Reply → List ℕ → Type 0) (kinds : 
   command-says reply opens (suc left) payload = commanded-says reply opens (command.read (start payload)) (commands left) (command-says reply opens left)
 
   outcome-says : (user : List ℕ) (reply : Reply) → SaysAll (Q reply) (outcome user reply)
-  outcome-says user (Opened account host) = (kinds.ok (Opened account host) (tt {0}), command-says (Opened account host) (tt {0}) all_commands)
-  outcome-says user (Sandbox account host) = (kinds.ok (Sandbox account host) (tt {0}), command-says (Sandbox account host) (tt {0}) all_commands)
+  outcome-says user (Opened account host) = (kinds.ok (Opened account host) refl, command-says (Opened account host) refl all_commands)
+  outcome-says user (Sandbox account host) = (kinds.ok (Sandbox account host) refl, command-says (Sandbox account host) refl all_commands)
   outcome-says user (Blocked rule left) = (kinds.error (Blocked rule left) _, tt)
   outcome-says user (Denied using_password) = (kinds.error (Denied using_password) _, tt)
   outcome-says user Locked = (kinds.error Locked _, tt)

@@ -5,7 +5,9 @@ use Rattle.lg_base.specs.Errors.{number_of}
 use Rattle.factor_chain.specs.declared.credentials.Method.{Method}
 use Rattle.packet_frame.specs.declared.packets.Packet.{Packet}
 use Rattle.account_history.specs.declared.entries.Entry.{Entry}
-use Rattle.session_talk.specs.Owed.{Own, Sent}
+use Rattle.account_history.specs.declared.entries.Reply.{Reply}
+use Rattle.session_talk.specs.Logins.{session}
+use Rattle.session_talk.specs.Owed.{Own, Sent, owed}
 use Rattle.session_talk.specs.Transcript.{Peer, Transcript}
 use Rattle.session_talk.specs.declared.ends.SessionEnd.{SessionEnd}
 use Rattle.session_talk.specs.Texts.{error_payload, fast_payload, full_payload, greeting_of, greeting_payload, method_name, ok_payload, switch_payload}
@@ -14,7 +16,7 @@ use Rattle.login_client.specs.declared.claims.Claim.{Claim}
 use Rattle.login_client.specs.declared.ends.LoginEnd.TheVariants as end
 use Rattle.login_client.specs.Hearing.{IsHeard}
 use Rattle.login_client.specs.declared.hearing.Heard.TheVariants.{Greets, Switches, Fast, Full, Accepts, Refuses}
-use Rattle.both_ends.specs.Meeting.{IsBeginning, Opens, first_entered, first_reply, payloads_of, sent_by}
+use Rattle.both_ends.specs.Meeting.{AreNonces, EndsOver, IsBeginning, Opens, first_entered, first_reply, payloads_of, sent_by}
 
 -- What the payloads that a session sends say to a client. A payload says one thing alone, by a law of the client.
 pub record PayloadsAreHeard : Type 0 where
@@ -46,3 +48,13 @@ pub record RefusedByError : Type 0 where
       (claim : Claim) (got written : List (List ℕ)) (number : ℕ) → Transcript id peer bytes entries sent how →
       IsBeginning got (payloads_of sent) → ClientTalk claim got written (Some (end.Refused number)) →
       (error : Code) × Contains got (error_payload error) × (number_of error ≡ number)
+
+-- A client that got all payloads that a session sends up to the end of its first attempt, and any after them, has ended
+-- by the reply to that attempt.
+pub record EndedByReply : Type 0 where
+  pub over_packets : (id : ℕ) (packets : List Packet) (owns : List Own) (reply : Reply) (claim : Claim) (more : List (List ℕ)) →
+      id < 2 ^ 32 → AreNonces owns → (owed 0 (session id) packets owns).unused ≡ [] → first_reply owns ≡ Some reply →
+      EndsOver claim reply (sent_by id packets owns ++ more)
+  pub over_bytes : (id : ℕ) (peer : Peer) (bytes : List ℕ) (entries : List Entry) (sent : List Sent) (how : Option SessionEnd)
+      (reply : Reply) (claim : Claim) (more : List (List ℕ)) (t : Transcript id peer bytes entries sent how) →
+      id < 2 ^ 32 → AreNonces t.owns → first_entered entries ≡ Some reply → EndsOver claim reply (payloads_of sent ++ more)

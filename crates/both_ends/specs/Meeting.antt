@@ -1,12 +1,18 @@
 -- A session, and a client that gets the payloads that the session sends.
-use Rattle.std.specs.Prelude.{◌≡◌, ℕ, List, [], ◌∷◌, ◌++◌, map, Option, Some, None}
+use Rattle.std.specs.Prelude.{◌≡◌, ◌⊎◌, IsTrue, ℕ, true, false, List, [], ◌∷◌, ◌++◌, length, map, Option, Some, None}
 use Rattle.packet_frame.specs.declared.packets.Packet.{Packet}
+use Rattle.account_history.specs.Failures.{opens}
 use Rattle.account_history.specs.declared.entries.Entry.{Entry}
 use Rattle.account_history.specs.declared.entries.Entry.TheVariants.{Attempted}
 use Rattle.account_history.specs.declared.entries.Reply.{Reply}
-use Rattle.account_history.specs.declared.entries.Reply.TheVariants.{Opened, Sandbox}
+use Rattle.account_history.specs.declared.entries.Reply.TheVariants.{Opened, Sandbox, Blocked, Denied, Locked, MustChange}
 use Rattle.session_talk.specs.Logins.{session}
-use Rattle.session_talk.specs.Owed.{Own, Did, Sent, owed}
+use Rattle.session_talk.specs.Owed.{Own, Drew, Did, Sent, owed}
+use Rattle.login_client.specs.Conversation.{ClientTalk}
+use Rattle.login_client.specs.declared.claims.Claim.{Claim}
+use Rattle.login_client.specs.declared.ends.LoginEnd.{LoginEnd}
+use Rattle.login_client.specs.declared.ends.LoginEnd.TheVariants as end
+use Rattle.login_client.specs.declared.ends.Reason.TheVariants as reason
 
 -- ## What is sent, and what is got of it
 
@@ -35,8 +41,36 @@ first_entered [] = None
 first_entered (Attempted attempt ∷ entries) = Some attempt.reply
 first_entered (_ ∷ entries) = first_entered entries
 
--- the session opens, in full or for a new password alone
+-- there is one, and the session opened, in full or for a new password alone
 abbrev pub Opens : Option Reply → Type 0
-Opens (Some (Opened account host)) = Unit {0}
-Opens (Some (Sandbox account host)) = Unit {0}
-Opens _ = ⊥
+Opens (Some reply) = IsTrue (opens reply)
+Opens None = ⊥
+
+-- how a reply ends the login of a client that is told it
+abbrev pub end_told : Reply → LoginEnd
+end_told (Opened account host) = end.Opened
+end_told (Sandbox account host) = end.Opened
+end_told (Blocked rule left) = end.Refused 3955
+end_told (Denied using_password) = end.Refused 1045
+end_told Locked = end.Refused 3118
+end_told MustChange = end.Refused 1862
+
+-- How a login ends whose session got a reply: as the reply tells, or earlier, since the password was asked for in the
+-- clear and the server isn't on the client's machine.
+abbrev pub EndsBy : Claim → Reply → LoginEnd → Type 0
+EndsBy claim reply how = (how ≡ end_told reply) ⊎ ((claim.local ≡ false) × (how ≡ end.WontSend reason.NotLocal))
+
+-- each nonce that was drawn has 20 bytes
+abbrev pub AreNonces : List Own → Type 0
+AreNonces [] = Unit {0}
+AreNonces (Drew nonce ∷ owns) = (length nonce ≡ 20) × AreNonces owns
+AreNonces (_ ∷ owns) = AreNonces owns
+
+-- A client that gets these payloads, from a session whose first attempt got this reply, ends by it: it has a talk over
+-- them, and each such talk ends so. On the server's machine it ends as the reply tells.
+pub record EndsOver (claim : Claim) (reply : Reply) (got : List (List ℕ)) : Type 0 where
+  pub there_is : (written : List (List ℕ)) × (how : LoginEnd) × ClientTalk claim got written (Some how)
+  pub each : (written : List (List ℕ)) (result : Option LoginEnd) → ClientTalk claim got written result →
+      (how : LoginEnd) × (result ≡ Some how) × EndsBy claim reply how
+  pub local : claim.local ≡ true → (written : List (List ℕ)) (result : Option LoginEnd) → ClientTalk claim got written result →
+      result ≡ Some (end_told reply)

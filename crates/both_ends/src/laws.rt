@@ -1,6 +1,6 @@
 //! Laws of both ends. Each function does nothing: its contract is the law.
 
-ghost use Rattle.both_ends.specs.Laws.{OpenedByReply, PayloadsAreHeard, RefusedByError};
+ghost use Rattle.both_ends.specs.Laws.{EndedByReply, OpenedByReply, PayloadsAreHeard, RefusedByError};
 
 /// Each payload that a session sends says one thing to a client: what the session means by it.
 pub fn payloads_are_heard()
@@ -16,4 +16,10 @@ pub fn opened_by_reply()
 /// It is refused with a number only where the session sent an error with that number.
 pub fn refused_by_error()
     ensures { RefusedByError }
+{}
+
+/// A client that got all that a session sends up to the end of its first attempt, and any payloads after that, has ended
+/// as the reply to that attempt tells, or since it would have to write the password in the clear to another machine.
+pub fn ended_by_reply()
+    ensures { EndedByReply }
 {}

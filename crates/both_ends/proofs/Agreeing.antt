@@ -1,0 +1,212 @@
+-- A client that got all that a session sends up to the reply to its first attempt ends as the reply tells.
+use Rattle.std.proofs.Common.{◌≡◌, refl, sym, ap, ◌∙◌, subst, ◌⊎◌, inl, inr, ℕ, ◌<◌, ◌^◌, Bool, true, false, List, [], ◌∷◌, ◌++◌, length, Some, Result, Ok, Err}
+use Rattle.lg_base.specs.declared.errors.Code.TheVariants as code
+use Rattle.packet_frame.specs.Packets.{id_after}
+use Rattle.packet_frame.specs.declared.packets.Packet.{Packet}
+use Rattle.factor_chain.specs.Checking.{known_fits_of}
+use Rattle.factor_chain.specs.declared.credentials.Look.{Look}
+use Rattle.factor_chain.specs.declared.credentials.Method.{Method}
+use Rattle.factor_chain.specs.declared.credentials.Method.TheVariants.{Native, CachingSha2}
+use Rattle.factor_chain.specs.declared.evidence_list.Evidence.{Evidence}
+use Rattle.factor_chain.specs.declared.evidence_list.Evidence.TheVariants as evidence
+use Rattle.account_history.specs.declared.entries.Reply.{Reply}
+use Rattle.account_history.specs.declared.entries.Reply.TheVariants.{Opened, Sandbox, Blocked, Denied, Locked, MustChange}
+use Rattle.wire_form.specs.Payloads.{start}
+use Rattle.auth_packets.specs.Handshake.{response, response_text}
+use Rattle.auth_packets.specs.declared.handshake.Response.{Response}
+use Rattle.session_talk.specs.Logins.{answering, attempt_of, caching, claim_of, claimed, clear_evidence, clearing, is_blank, is_named, method_of, outcome, proved, proving, responded, session, without_zero}
+use Rattle.session_talk.specs.Owed.{Own, Drew, Saw, Late, Did, owed}
+use Rattle.session_talk.specs.Talk.{Talk, Says, Hears, Draws, Looks, Checks, Settles, SettlesLocked, Over}
+use Rattle.session_talk.specs.Texts.{days_of, greeting_of}
+use Rattle.session_talk.specs.Turns.{id_behind}
+use Rattle.session_talk.specs.declared.attempts.Attempting.{Attempting}
+use Rattle.session_talk.specs.declared.attempts.Claim as said
+use Rattle.login_client.specs.Conversation as client-talk
+use Rattle.login_client.specs.Conversation.{factors, full, further}
+use Rattle.login_client.specs.Hearing.{IsHeard}
+use Rattle.login_client.specs.Methods.{answer_of, clear_text}
+use Rattle.login_client.specs.Talk as client
+use Rattle.login_client.specs.Talk.{Leads, hearing}
+use Rattle.login_client.specs.declared.claims.Claim.{Claim}
+use Rattle.login_client.specs.declared.ends.LoginEnd.{LoginEnd}
+use Rattle.login_client.specs.declared.ends.LoginEnd.TheVariants as end
+use Rattle.login_client.specs.declared.ends.Reason.TheVariants.{NotLocal}
+use Rattle.login_client.specs.declared.hearing.Heard.{Heard}
+use Rattle.login_client.specs.declared.hearing.Heard.TheVariants.{Greets, Switches, Fast, Full, Accepts, Refuses}
+use Rattle.login_client.specs.declared.methods.Method.TheVariants as client-method
+use Rattle.both_ends.specs.Meeting.{AreNonces, EndsBy, end_told, first_reply, payloads_of}
+use Rattle.both_ends.proofs.Heard.{error-heard, fast-heard, full-heard, greeting-heard, ok-heard, switch-heard}
+use Rattle.both_ends.proofs.Hearings.{IsCaching, IsReady, answered-caching, client_of, factors-ready, full-said, full-unsaid, greeting-answered, native-ready, responded-caching, switch-answered, switch-of}
+
+-- ## A client beside a session
+
+-- the client doesn't answer, since the server isn't on its machine
+abbrev pub GaveUp : Claim → client.Talk → Type 0
+GaveUp claim c = (claim.local ≡ false) × (c ≡ client.Over (end.WontSend NotLocal))
+
+-- what is said of a reply is heard, and ends the client as the reply tells
+abbrev pub Tells : client.Talk → Reply → Talk → Type 0
+Tells c reply (Says payload t) = (heard : Heard) × IsHeard payload heard × (hearing c heard ≡ client.Over (end_told reply))
+Tells c reply _ = ⊥
+
+-- The client goes along with a session: whatever the session is answered, what it says is heard, until the reply ends
+-- the client, or the client gives up.
+abbrev pub GoesAlong : Claim → client.Talk → Talk → Type 0
+GoesAlong claim c (Says payload t) = (heard : Heard) × IsHeard payload heard × (GoesAlong claim (hearing c heard) t ⊎ GaveUp claim (hearing c heard))
+GoesAlong claim c (Hears anew k) = (payload : List ℕ) → GoesAlong claim c (k payload)
+GoesAlong claim c (Draws first k) = (nonce : List ℕ) → length nonce ≡ 20 → GoesAlong claim c (k nonce)
+GoesAlong claim c (Looks again who k) = (look : Look) → GoesAlong claim c (k look)
+GoesAlong claim c (Checks look evidences t) = GoesAlong claim c t
+GoesAlong claim c (Settles checked flags stale k) = GoesAlong claim c stale × ((reply : Reply) → Tells c reply (k reply))
+GoesAlong claim c (SettlesLocked user evidences flags k) = (reply : Reply) → Tells c reply (k reply)
+GoesAlong claim c (Over how) = Unit {0}
+
+-- ## What comes of it
+
+-- over these payloads the client ends by a reply
+abbrev pub Ends : Claim → client.Talk → Reply → List (List ℕ) → Type 0
+Ends claim c reply got = (written : List (List ℕ)) × (how : LoginEnd) × Leads c got written (client.Over how) × EndsBy claim reply how
+
+hears-first : (claim : Claim) (c : client.Talk) (reply : Reply) (payload : List ℕ) (got : List (List ℕ)) (heard : Heard) → IsHeard payload heard →
+    Ends claim (hearing c heard) reply got → Ends claim c reply (payload ∷ got)
+hears-first claim (client.Hears k) reply payload got heard is (written, how, leads, by) = (written, how, (heard, is, leads), by)
+hears-first claim (client.Says text k) reply payload got heard is (written, how, leads, by) = (text ∷ written, how, (written, refl, heard, is, leads), by)
+hears-first claim (client.Over how') reply payload got heard is (written, how, leads, by) = (written, how, leads, by)
+
+is-over : (claim : Claim) (reply : Reply) (c : client.Talk) (how : LoginEnd) (got : List (List ℕ)) → c ≡ client.Over how → EndsBy claim reply how → Ends claim c reply got
+is-over claim reply c how got over by = subst (λ (t : client.Talk). Ends claim t reply got) (sym over) ([], how, (refl, refl), by)
+
+told-ends : (claim : Claim) (c : client.Talk) (reply : Reply) (t : Talk) (next : ℕ) (packets : List Packet) (owns : List Own) (more : List (List ℕ)) → Tells c reply t →
+    Ends claim c reply (payloads_of (owed next t packets owns).sent ++ more)
+unfolding owed
+told-ends claim c reply (Says payload t) next packets owns more (heard, is, over) =
+    hears-first claim c reply payload _ heard is (is-over claim reply (hearing c heard) (end_told reply) _ over (inl refl))
+told-ends claim c reply _ next packets owns more told = absurd told
+
+some-reply : (found reply : Reply) → Some found ≡ Some reply → found ≡ reply
+some-reply found reply e = cc
+
+no-reply : (owns : List Own) (reply : Reply) → owns ≡ [] → first_reply owns ≡ Some reply → ⊥
+no-reply owns reply none found = absurd (let e = ap first_reply none in cc)
+
+-- where all answers were come to, and one is a reply, the client has ended by it
+pub goes-along : (claim : Claim) (reply : Reply) (more : List (List ℕ)) (t : Talk) (c : client.Talk) (next : ℕ) (packets : List Packet) (owns : List Own) →
+    GoesAlong claim c t → AreNonces owns → (owed next t packets owns).unused ≡ [] → first_reply owns ≡ Some reply →
+    Ends claim c reply (payloads_of (owed next t packets owns).sent ++ more)
+unfolding owed
+goes-along claim reply more (Says payload t) c next packets owns (heard, is, inl goes) nonces used found =
+    hears-first claim c reply payload _ heard is (goes-along claim reply more t (hearing c heard) (id_behind next payload) packets owns goes nonces used found)
+goes-along claim reply more (Says payload t) c next packets owns (heard, is, inr gave) nonces used found =
+    hears-first claim c reply payload _ heard is (is-over claim reply (hearing c heard) (end.WontSend NotLocal) _ gave.1 (inr (gave.0, refl)))
+goes-along claim reply more (Hears anew k) c next (packet ∷ packets) owns goes nonces used found =
+    goes-along claim reply more (k packet.payload) c (id_after packet.last) packets owns (goes packet.payload) nonces used found
+goes-along claim reply more (Draws first k) c next packets (Drew nonce ∷ owns) goes nonces used found =
+    goes-along claim reply more (k nonce) c next packets owns (goes nonce nonces.0) nonces.1 used found
+goes-along claim reply more (Looks again who k) c next packets (Saw look ∷ owns) goes nonces used found =
+    goes-along claim reply more (k look) c next packets owns (goes look) nonces used found
+goes-along claim reply more (Checks look evidences t) c next packets owns goes nonces used found =
+    goes-along claim reply more t c next packets owns goes nonces used found
+goes-along claim reply more (Settles checked flags stale k) c next packets (Late ∷ owns) goes nonces used found =
+    goes-along claim reply more stale c next packets owns goes.0 nonces used found
+goes-along claim reply more (Settles checked flags stale k) c next packets (Did replied ∷ owns) goes nonces used found =
+    subst (λ (r : Reply). Ends claim c r (payloads_of (owed next (k replied) packets owns).sent ++ more)) (some-reply replied reply found)
+    (told-ends claim c replied (k replied) next packets owns more (goes.1 replied))
+goes-along claim reply more (SettlesLocked user evidences flags k) c next packets (Did replied ∷ owns) goes nonces used found =
+    subst (λ (r : Reply). Ends claim c r (payloads_of (owed next (k replied) packets owns).sent ++ more)) (some-reply replied reply found)
+    (told-ends claim c replied (k replied) next packets owns more (goes replied))
+goes-along claim reply more _ c next _ owns goes nonces used found = absurd (no-reply owns reply used found)
+
+-- ## A session
+
+module _ (claim : Claim) where
+  outcome-told : (c : client.Talk) → IsReady (hearing c) → (user : List ℕ) (reply : Reply) → Tells c reply (outcome user reply)
+  outcome-told c ready user (Opened account host) = (Accepts, ok-heard, ready.ok)
+  outcome-told c ready user (Sandbox account host) = (Accepts, ok-heard, ready.ok)
+  outcome-told c ready user (Blocked rule left) =
+      (Refuses 3955, error-heard (code.Blocked user (days_of rule.time) left rule.attempts), ready.err 3955)
+  outcome-told c ready user (Denied using_password) = (Refuses 1045, error-heard (code.Denied user using_password), ready.err 1045)
+  outcome-told c ready user Locked = (Refuses 3118, error-heard (code.Locked user), ready.err 3118)
+  outcome-told c ready user MustChange = (Refuses 1862, error-heard code.MustChange, ready.err 1862)
+
+  proved-along : (c : client.Talk) → IsReady (hearing c) → (a : Attempting) (look : Look) (given : Evidence) → GoesAlong claim c (proved a look given)
+  proved-along c ready a look given = (
+    (λ again. (outcome-told c ready a.user, outcome-told c ready a.user)),
+    outcome-told c ready a.user,
+  )
+
+  full-along : (c : client.Talk) (a : Attempting) (look : Look) (local : Bool) → claim.local ≡ local → c ≡ full claim →
+      GoesAlong claim c (clearing a look) ⊎ GaveUp claim c
+  full-along c a look true local is =
+      inl (subst (λ (d : client.Talk). GoesAlong claim d (clearing a look)) (sym (is ∙ full-said claim local))
+      (λ text. proved-along (client.Says (clear_text claim.secrets.first) (factors claim (further claim))) (factors-ready claim) a look (clear_evidence (without_zero text))))
+  full-along c a look false local is = inr (local, is ∙ full-unsaid claim local)
+
+  caching-along : (c : client.Talk) → IsCaching claim (hearing c) → (a : Attempting) (look : Look) (nonce bytes : List ℕ) (known : Bool) → GoesAlong claim c (caching a look nonce bytes known)
+  caching-along c ready a look nonce bytes true = (
+    Fast,
+    fast-heard,
+    inl (subst (λ (d : client.Talk). GoesAlong claim d (proved a look (evidence.Fast nonce bytes))) (sym ready.fast)
+        (proved-along (client.Hears (factors claim (further claim))) (factors-ready claim) a look (evidence.Fast nonce bytes))),
+  )
+  caching-along c ready a look nonce bytes false = (Full, full-heard, full-along (hearing c Full) a look claim.local refl ready.full)
+
+  -- a client that goes on by the account's method
+  Knows : Method → (Heard → client.Talk) → Type 0
+  Knows Native k = IsReady k
+  Knows CachingSha2 k = IsCaching claim k
+
+  knows-ready : (method : Method) (k : Heard → client.Talk) → Knows method k → IsReady k
+  unfolding Knows
+  knows-ready Native k knows = knows
+  knows-ready CachingSha2 k knows = knows.ready
+
+  caching-knows : (method : Method) (k : Heard → client.Talk) → IsCaching claim k → Knows method k
+  unfolding Knows
+  caching-knows Native k is = is.ready
+  caching-knows CachingSha2 k is = is
+
+  answered-knows : (method : Method) → Knows method (client-talk.answered claim (client_of method))
+  unfolding Knows
+  answered-knows Native = native-ready claim
+  answered-knows CachingSha2 = answered-caching claim
+
+  proving-along : (c : client.Talk) (a : Attempting) (look : Look) (nonce bytes : List ℕ) (method : Method) → Knows method (hearing c) → GoesAlong claim c (proving a look nonce bytes method)
+  unfolding Knows
+  proving-along c a look nonce bytes Native knows = proved-along c knows a look (evidence.Native nonce bytes)
+  proving-along c a look nonce bytes CachingSha2 knows = caching-along c knows a look nonce bytes (known_fits_of look.in_force nonce bytes)
+
+  answering-along : (c : client.Talk) (a : Attempting) (look : Look) (nonce bytes : List ℕ) (blank : Bool) → Knows (method_of look) (hearing c) → GoesAlong claim c (answering a look nonce bytes blank)
+  answering-along c a look nonce bytes true knows = proved-along c (knows-ready (method_of look) (hearing c) knows) a look evidence.Empty
+  answering-along c a look nonce bytes false knows = proving-along c a look nonce bytes (method_of look) knows
+
+  -- the client after its response
+  responding : List ℕ → client.Talk
+  responding nonce = client.Says (response_text (client-talk.response_to claim client-method.CachingSha2 nonce)) (client-talk.responded claim client-method.CachingSha2)
+
+  claimed-along : (first : List ℕ) (a : Attempting) (claimed-by : said.Claim) (look : Look) (named : Bool) → GoesAlong claim (responding first) (claimed a claimed-by look named)
+  unfolding responding
+  claimed-along first a claimed-by look true =
+      answering-along (responding first) a look claimed-by.nonce claimed-by.auth (is_blank claimed-by.auth)
+      (caching-knows (method_of look) (client-talk.responded claim client-method.CachingSha2) (responded-caching claim))
+  claimed-along first a claimed-by look false = λ nonce size. (
+    Switches (switch-of (method_of look) nonce) 23,
+    switch-heard (method_of look) nonce,
+    inl (subst (λ (d : client.Talk). (bytes : List ℕ) → GoesAlong claim d (answering a look nonce bytes (is_blank bytes))) (sym (switch-answered claim (method_of look) nonce 23 size))
+        (λ bytes. answering-along (client.Says (answer_of (client_of (method_of look)) claim.secrets.first nonce) (client-talk.answered claim (client_of (method_of look)))) a look nonce bytes (is_blank bytes) (answered-knows (method_of look)))),
+  )
+
+  bad-heard : (first : List ℕ) (at : ℕ) (nonce : List ℕ) → GoesAlong claim (responding first) (responded nonce (Err at))
+  bad-heard first at nonce = (Refuses 1043, error-heard code.BadHandshake, inl (tt {0}))
+
+  responded-along : (first nonce : List ℕ) (found : Result Response ℕ) → GoesAlong claim (responding first) (responded nonce found)
+  responded-along first nonce (Ok answer) = λ look. claimed-along first (attempt_of answer) (claim_of nonce answer) look (is_named (claim_of nonce answer) look)
+  responded-along first nonce (Err at) = bad-heard first at nonce
+
+  pub session-along : (id : ℕ) → id < 2 ^ 32 → GoesAlong claim (client-talk.conversation claim) (session id)
+  unfolding responding
+  session-along id small nonce size = (
+    Greets (greeting_of id nonce),
+    greeting-heard id nonce small size,
+    inl (subst (λ (d : client.Talk). (payload : List ℕ) → GoesAlong claim d (responded nonce (response.read (start payload)))) (sym (greeting-answered claim id nonce))
+        (λ payload. responded-along nonce nonce (response.read (start payload)))),
+  )
