@@ -1,17 +1,22 @@
 -- The laws of how a client ends, whole.
-use Rattle.std.proofs.Common.{◌≡◌, refl, sym, ap, ◌∙◌, subst, inl, inr, ℕ, Bool, true, false, List, ◌++◌, Option, Some, append_assoc}
+use Rattle.std.proofs.Common.{◌≡◌, refl, sym, ap, ◌∙◌, subst, inl, inr, ℕ, Bool, true, false, List, [], ◌++◌, Option, Some, append_assoc, append-nil}
+use Rattle.lg_base.specs.Errors.{number_of}
 use Rattle.account_history.specs.declared.entries.Reply.{Reply}
 use Rattle.session_talk.specs.Logins.{session}
+use Rattle.session_talk.specs.Texts.{error_payload, ok_payload}
 use Rattle.login_client.specs.Conversation.{ClientTalk, conversation}
 use Rattle.login_client.specs.Talk.{Over}
 use Rattle.login_client.specs.declared.claims.Claim.{Claim}
 use Rattle.login_client.specs.declared.ends.LoginEnd.{LoginEnd}
 use Rattle.login_client.proofs.Meaning.{client-talk-one}
-use Rattle.both_ends.specs.Laws.{EndedByReply, OpenedByReply, RefusedByError}
-use Rattle.both_ends.specs.Meeting.{EndsBy, EndsOver, Opens, end_told, first_reply, payloads_of, sent_by}
+use Rattle.login_client.specs.declared.hearing.Heard.TheVariants.{Accepts, Refuses}
+use Rattle.both_ends.specs.Laws.{EndedAtOnce, EndedByReply, OpenedByReply, RefusedByError}
+use Rattle.both_ends.specs.Meeting.{EndsBy, EndsOver, IsBeginning, Opens, Tells, end_told, first_reply, payloads_of, sent_by}
 use Rattle.both_ends.proofs.Agreeing.{Ends, goes-along, session-along}
 use Rattle.both_ends.proofs.Endings.{ErrorAfter, IsNoOk, IsTrueError, OkAfter, error-no-ok, error-owed, error-true, ok-owed, opened-by, refused-by}
 use Rattle.both_ends.proofs.OverBytes.{entered, fault_of, packets_of, told_of, transcript-each, transcript-sent}
+use Rattle.both_ends.proofs.Finishing.{HasLast, ends-sooner, has-last}
+use Rattle.both_ends.proofs.Heard.{error-heard, ok-heard}
 use Rattle.both_ends.proofs.Saying.{IsEither}
 
 pub opened-by-reply : OpenedByReply
@@ -71,4 +76,36 @@ ended-by-reply = record {
       subst (λ (l : List (List ℕ)). EndsOver claim reply l) (sym all)
       (ends-over claim reply (sent_by id packets t.owns ++ (told ++ more))
       (goes-along claim reply (told ++ more) (session id) (conversation claim) 0 packets t.owns (session-along claim id small) nonces enters.1 (sym enters.0 ∙ found)));
+}
+
+-- ## At once
+
+is-told : (got : List (List ℕ)) → Tells got → HasLast got
+is-told got (inl ok) = has-last got ok_payload Accepts ok ok-heard (tt {0})
+is-told got (inr (error, among)) = has-last got (error_payload error) (Refuses (number_of error)) among (error-heard error) (tt {0})
+
+-- with nothing more
+no-more : (claim : Claim) (reply : Reply) (all : List (List ℕ)) → Ends claim (conversation claim) reply (all ++ []) → Ends claim (conversation claim) reply all
+no-more claim reply all ends = subst (λ (l : List (List ℕ)). Ends claim (conversation claim) reply l) (append-nil all) ends
+
+sooner : (claim : Claim) (reply : Reply) (all got : List (List ℕ)) → Ends claim (conversation claim) reply all → IsBeginning got all → Tells got → EndsOver claim reply got
+sooner claim reply all got ends (rest, is) tells =
+    ends-over claim reply got
+    (ends-sooner claim reply got rest (is-told got tells) (subst (λ (l : List (List ℕ)). Ends claim (conversation claim) reply l) is ends))
+
+pub ended-at-once : EndedAtOnce
+ended-at-once = record {
+  over_packets = λ id packets owns reply claim got small nonces used found begins tells.
+      sooner claim reply (sent_by id packets owns) got
+      (no-more claim reply (sent_by id packets owns)
+      (goes-along claim reply [] (session id) (conversation claim) 0 packets owns (session-along claim id small) nonces used found))
+      begins tells;
+  over_bytes = λ id peer bytes entries sent how reply claim got t small nonces found begins tells.
+      let packets = packets_of id bytes t.owns in
+      let told = told_of (fault_of id bytes t.owns) in
+      let enters = entered (session id) 0 packets t.owns entries t.entered in
+      sooner claim reply (payloads_of sent) got
+      (subst (λ (l : List (List ℕ)). Ends claim (conversation claim) reply l) (sym (transcript-sent id peer bytes entries sent how t))
+      (goes-along claim reply told (session id) (conversation claim) 0 packets t.owns (session-along claim id small) nonces enters.1 (sym enters.0 ∙ found)))
+      begins tells;
 }

@@ -5,4 +5,5 @@ pub mod Endings
 pub mod OverBytes
 pub mod Hearings
 pub mod Agreeing
+pub mod Finishing
 pub mod Closing

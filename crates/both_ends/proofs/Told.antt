@@ -121,10 +121,10 @@ told-first how payload got heard is tells = (payload, heard, (0, omega arith, re
 some-is : (a b : LoginEnd) → Some a ≡ Some b → a ≡ b
 some-is a b e = cc
 
--- a talk that goes on with what it hears, and one that is over
-mutual-told : (k : Heard → Talk) (payload : List ℕ) (got written : List (List ℕ)) (now : Talk) (how : LoginEnd) (heard : Heard) → IsHeard payload heard → EndsAsTold heard (k heard)
+-- a talk that is over has heard what tells its end
+heard-told : (k : Heard → Talk) (payload : List ℕ) (got written : List (List ℕ)) (now : Talk) (how : LoginEnd) (heard : Heard) → IsHeard payload heard → EndsAsTold heard (k heard)
     → Leads (k heard) got written now → result_of now ≡ Some how → IsTold how (payload ∷ got)
-mutual-told k payload got written now how heard is told leads ends = by (k heard) payload got written heard is told leads where
+heard-told k payload got written now how heard is told leads ends = by (k heard) payload got written heard is told leads where
   by : (t : Talk) (first : List ℕ) (later wrote : List (List ℕ)) (said : Heard) → IsHeard first said → EndsAsTold said t → Leads t later wrote now → IsTold how (first ∷ later)
   by (Hears k') first [] wrote said is' told' (none, at) = absurd (let e = ap result_of at in cc)
   by (Hears k') first (next ∷ later) wrote said is' told' (heard', is-heard', leads') =
@@ -141,6 +141,6 @@ pub client-told : (claim : Claim) (got written : List (List ℕ)) (how : LoginEn
 client-told claim [] written how talk = absurd (let e = ap result_of talk.leads.1 in let f = talk.result_is in cc)
 client-told claim (payload ∷ got) written how talk =
     let leads = talk.leads in
-    mutual-told (greeted claim) payload got written talk.now how leads.0 leads.1 (greeted-told claim leads.0) leads.2 (sym-of talk.result_is) where
+    heard-told (greeted claim) payload got written talk.now how leads.0 leads.1 (greeted-told claim leads.0) leads.2 (sym-of talk.result_is) where
       sym-of : {a b : Option LoginEnd} → a ≡ b → b ≡ a
       sym-of e = cc

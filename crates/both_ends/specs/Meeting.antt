@@ -1,5 +1,6 @@
 -- A session, and a client that gets the payloads that the session sends.
-use Rattle.std.specs.Prelude.{◌≡◌, ◌⊎◌, IsTrue, ℕ, true, false, List, [], ◌∷◌, ◌++◌, length, map, Option, Some, None}
+use Rattle.std.specs.Prelude.{◌≡◌, ◌⊎◌, IsTrue, ℕ, true, false, List, [], ◌∷◌, ◌++◌, length, map, Contains, Option, Some, None}
+use Rattle.lg_base.specs.declared.errors.Code.{Code}
 use Rattle.packet_frame.specs.declared.packets.Packet.{Packet}
 use Rattle.account_history.specs.Failures.{opens}
 use Rattle.account_history.specs.declared.entries.Entry.{Entry}
@@ -8,6 +9,7 @@ use Rattle.account_history.specs.declared.entries.Reply.{Reply}
 use Rattle.account_history.specs.declared.entries.Reply.TheVariants.{Opened, Sandbox, Blocked, Denied, Locked, MustChange}
 use Rattle.session_talk.specs.Logins.{session}
 use Rattle.session_talk.specs.Owed.{Own, Drew, Did, Sent, owed}
+use Rattle.session_talk.specs.Texts.{error_payload, ok_payload}
 use Rattle.login_client.specs.Conversation.{ClientTalk}
 use Rattle.login_client.specs.declared.claims.Claim.{Claim}
 use Rattle.login_client.specs.declared.ends.LoginEnd.{LoginEnd}
@@ -26,6 +28,10 @@ sent_by id packets owns = payloads_of (owed 0 (session id) packets owns).sent
 -- some of them were got, in order and from the first one on
 abbrev pub IsBeginning : (got sent : List (List ℕ)) → Type 0
 IsBeginning got sent = (rest : List (List ℕ)) × (sent ≡ got ++ rest)
+
+-- an OK or an ERR is among them
+abbrev pub Tells : (got : List (List ℕ)) → Type 0
+Tells got = Contains got ok_payload ⊎ ((error : Code) × Contains got (error_payload error))
 
 -- ## The reply to the first attempt
 

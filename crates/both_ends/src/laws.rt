@@ -1,6 +1,6 @@
 //! Laws of both ends. Each function does nothing: its contract is the law.
 
-ghost use Rattle.both_ends.specs.Laws.{EndedByReply, OpenedByReply, PayloadsAreHeard, RefusedByError};
+ghost use Rattle.both_ends.specs.Laws.{EndedAtOnce, EndedByReply, OpenedByReply, PayloadsAreHeard, RefusedByError};
 
 /// Each payload that a session sends says one thing to a client: what the session means by it.
 pub fn payloads_are_heard()
@@ -22,4 +22,9 @@ pub fn refused_by_error()
 /// as the reply to that attempt tells, or since it would have to write the password in the clear to another machine.
 pub fn ended_by_reply()
     ensures { EndedByReply }
+{}
+
+/// As soon as it got an OK or an ERR of such a session, a client has ended so.
+pub fn ended_at_once()
+    ensures { EndedAtOnce }
 {}
