@@ -1,5 +1,6 @@
 -- The laws of how a client ends, whole.
-use Rattle.std.proofs.Common.{◌≡◌, refl, sym, ap, ◌∙◌, subst, inl, inr, ℕ, Bool, true, false, List, [], ◌++◌, Option, Some, append_assoc, append-nil}
+use Rattle.std.proofs.Common.{◌≡◌, refl, sym, ap, ◌∙◌, subst, inl, inr, ℕ, Bool, true, false, List, [], ◌++◌, Contains, Option, Some, append_assoc, append-nil}
+use Rattle.lg_base.specs.declared.errors.Code.{Code}
 use Rattle.lg_base.specs.Errors.{number_of}
 use Rattle.account_history.specs.declared.entries.Reply.{Reply}
 use Rattle.session_talk.specs.Logins.{session}
@@ -8,9 +9,10 @@ use Rattle.login_client.specs.Conversation.{ClientTalk, conversation}
 use Rattle.login_client.specs.Talk.{Over}
 use Rattle.login_client.specs.declared.claims.Claim.{Claim}
 use Rattle.login_client.specs.declared.ends.LoginEnd.{LoginEnd}
+use Rattle.login_client.specs.declared.ends.LoginEnd.TheVariants as end
 use Rattle.login_client.proofs.Meaning.{client-talk-one}
 use Rattle.login_client.specs.declared.hearing.Heard.TheVariants.{Accepts, Refuses}
-use Rattle.both_ends.specs.Laws.{EndedAtOnce, EndedByReply, OpenedByReply, RefusedByError}
+use Rattle.both_ends.specs.Laws.{EndedAtOnce, EndedByReply, OpenedByReply, RefusedByError, RefusedByReply}
 use Rattle.both_ends.specs.Meeting.{EndsBy, EndsOver, IsBeginning, Opens, Tells, end_told, first_reply, payloads_of, sent_by}
 use Rattle.both_ends.proofs.Agreeing.{Ends, goes-along, session-along}
 use Rattle.both_ends.proofs.Endings.{ErrorAfter, IsNoOk, IsTrueError, OkAfter, error-no-ok, error-owed, error-true, ok-owed, opened-by, refused-by}
@@ -108,4 +110,31 @@ ended-at-once = record {
       (subst (λ (l : List (List ℕ)). Ends claim (conversation claim) reply l) (sym (transcript-sent id peer bytes entries sent how t))
       (goes-along claim reply told (session id) (conversation claim) 0 packets t.owns (session-along claim id small) nonces enters.1 (sym enters.0 ∙ found)))
       begins tells;
+}
+
+-- ## Refused by the reply
+
+refused-told : (claim : Claim) (reply : Reply) (got written : List (List ℕ)) (number : ℕ) → EndsOver claim reply got → ClientTalk claim got written (Some (end.Refused number)) →
+    end_told reply ≡ end.Refused number
+refused-told claim reply got written number ends talk = by (ends.each written (Some (end.Refused number)) talk) where
+  by : (how : LoginEnd) × (Some (end.Refused number) ≡ Some how) × EndsBy claim reply how → end_told reply ≡ end.Refused number
+  by (how, is, inl told) = sym (some-is (end.Refused number) how is ∙ told)
+  by (how, is, inr gave) = absurd (let other = some-is (end.Refused number) how is ∙ gave.1 in cc)
+
+-- a refused client got an ERR
+got-error : (got : List (List ℕ)) (number : ℕ) → (error : Code) × Contains got (error_payload error) × (number_of error ≡ number) → Tells got
+got-error got number (error, among, is) = inr (error, among)
+
+pub refused-by-reply : RefusedByReply
+refused-by-reply = record {
+  over_packets = λ id packets owns reply claim got written number small nonces used found begins talk.
+      refused-told claim reply got written number
+      (ended-at-once.over_packets id packets owns reply claim got small nonces used found begins
+      (got-error got number (refused-by-error.over_packets id packets owns claim got written number begins talk)))
+      talk;
+  over_bytes = λ id peer bytes entries sent how reply claim got written number t small nonces found begins talk.
+      refused-told claim reply got written number
+      (ended-at-once.over_bytes id peer bytes entries sent how reply claim got t small nonces found begins
+      (got-error got number (refused-by-error.over_bytes id peer bytes entries sent how claim got written number t begins talk)))
+      talk;
 }

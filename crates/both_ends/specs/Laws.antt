@@ -16,7 +16,7 @@ use Rattle.login_client.specs.declared.claims.Claim.{Claim}
 use Rattle.login_client.specs.declared.ends.LoginEnd.TheVariants as end
 use Rattle.login_client.specs.Hearing.{IsHeard}
 use Rattle.login_client.specs.declared.hearing.Heard.TheVariants.{Greets, Switches, Fast, Full, Accepts, Refuses}
-use Rattle.both_ends.specs.Meeting.{AreNonces, EndsOver, IsBeginning, Opens, first_entered, first_reply, payloads_of, sent_by, Tells}
+use Rattle.both_ends.specs.Meeting.{AreNonces, EndsOver, IsBeginning, Opens, Tells, end_told, first_entered, first_reply, payloads_of, sent_by}
 
 -- What the payloads that a session sends say to a client. A payload says one thing alone, by a law of the client.
 pub record PayloadsAreHeard : Type 0 where
@@ -69,3 +69,13 @@ pub record EndedAtOnce : Type 0 where
       (reply : Reply) (claim : Claim) (got : List (List ℕ)) (t : Transcript id peer bytes entries sent how) →
       id < 2 ^ 32 → AreNonces t.owns → first_entered entries ≡ Some reply →
       IsBeginning got (payloads_of sent) → Tells got → EndsOver claim reply got
+
+-- Where the first attempt has a reply, a client that was refused was refused with the number that the reply tells.
+pub record RefusedByReply : Type 0 where
+  pub over_packets : (id : ℕ) (packets : List Packet) (owns : List Own) (reply : Reply) (claim : Claim) (got written : List (List ℕ)) (number : ℕ) →
+      id < 2 ^ 32 → AreNonces owns → (owed 0 (session id) packets owns).unused ≡ [] → first_reply owns ≡ Some reply →
+      IsBeginning got (sent_by id packets owns) → ClientTalk claim got written (Some (end.Refused number)) → end_told reply ≡ end.Refused number
+  pub over_bytes : (id : ℕ) (peer : Peer) (bytes : List ℕ) (entries : List Entry) (sent : List Sent) (how : Option SessionEnd)
+      (reply : Reply) (claim : Claim) (got written : List (List ℕ)) (number : ℕ) (t : Transcript id peer bytes entries sent how) →
+      id < 2 ^ 32 → AreNonces t.owns → first_entered entries ≡ Some reply →
+      IsBeginning got (payloads_of sent) → ClientTalk claim got written (Some (end.Refused number)) → end_told reply ≡ end.Refused number

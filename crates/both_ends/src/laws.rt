@@ -1,6 +1,6 @@
 //! Laws of both ends. Each function does nothing: its contract is the law.
 
-ghost use Rattle.both_ends.specs.Laws.{EndedAtOnce, EndedByReply, OpenedByReply, PayloadsAreHeard, RefusedByError};
+ghost use Rattle.both_ends.specs.Laws.{EndedAtOnce, EndedByReply, OpenedByReply, PayloadsAreHeard, RefusedByError, RefusedByReply};
 
 /// Each payload that a session sends says one thing to a client: what the session means by it.
 pub fn payloads_are_heard()
@@ -27,4 +27,9 @@ pub fn ended_by_reply()
 /// As soon as it got an OK or an ERR of such a session, a client has ended so.
 pub fn ended_at_once()
     ensures { EndedAtOnce }
+{}
+
+/// Where that attempt has a reply, a client that was refused was refused with the number that the reply tells.
+pub fn refused_by_reply()
+    ensures { RefusedByReply }
 {}
