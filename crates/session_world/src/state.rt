@@ -9,10 +9,10 @@ ghost use Rattle.std.specs.Prelude.{◌≡◌, ◌++◌, [], ◌∷◌, ℕ, Opt
 
 use crate::calls::{Calls, Peer};
 use crate::held::Held;
+use crate::keeping::{go, is_peer_there, open, waits_for_call, with_bytes, with_peer};
 use crate::printing::print_idle;
 use crate::sessions::{keep, take};
 use crate::table::Table;
-use crate::keeping::{go, is_peer_there, open, waits_for_call, with_bytes, with_peer};
 use lg_base::{Memory, Out};
 use script_text::Event;
 use std::alloc::Global;
