@@ -32,5 +32,6 @@ script_text script = replay_text script.setup.accounts script.setup.settings scr
 -- line and 3.
 pub data IsDue (input : List ℕ) : ℕ → List ℕ → Type 0 where
   replayed : (script : Contents) → length input ≤ longest_script → Spells input script → IsLegalRun script → IsDue input 0 (script_text script)
-  refused : (line : ℕ) → length input ≤ longest_script → IsBadLine input line → IsDue input 3 (bad_line line)
+  refused : (line : ℕ) → length input ≤ longest_script → ((script : Contents) → Spells input script → ⊥) → IsBadLine input line
+      → IsDue input 3 (bad_line line)
   overlong : longest_script < length input → IsDue input 3 (bad_line 0)

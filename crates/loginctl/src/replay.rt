@@ -64,6 +64,7 @@ pub fn due_for(alloc: Global, input: &[u8]) -> Result<Outcome, Memory>
     if input.len() > LONGEST_SCRIPT {
         return refused(alloc, 0);
     }
+    // The law: the entries that a script's events print are a legal history.
     histories_are_legal();
     match Script::read(alloc, input) {
         Ok(script) => Ok(Outcome {

@@ -67,12 +67,12 @@ fn login_or_usage<W: Sink, L: Dial>(
 /// Does what the words say, and answers the status of the program.
 ///
 /// For `replay` the input is a script of sessions, and what its events print is printed: status 0. Any other input
-/// prints the number of its first line that doesn't fit, or 0 where it is longer than a script may be: 3. For `frames` the input is a stream of packets, each
-/// of which prints a line. A last line says how the stream ended: after a packet, 0, or at a place where it
-/// is no packet or too long, 3. For `login` the link is connected to the server at a socket, and the result of
-/// the client's login is printed: opened 0, refused 1, a link that fails 4, an answer of no form or none 7, and
-/// what the client won't send 8. Words of no form print the usage: 2. A source that fails gives 4, a sink that
-/// fails 5, and want of memory 6.
+/// prints the number of its first line that doesn't fit, or 0 where it is longer than a script may be: 3. For
+/// `frames` the input is a stream of packets, each of which prints a line. A last line says how the stream ended:
+/// after a packet, 0, or at a place where it is no packet or too long, 3. For `login` the link is connected to the
+/// server at a socket, and the result of the client's login is printed: opened 0, refused 1, a link that fails 4, an
+/// answer of no form or none 7, and what the client won't send 8. Words of no form print the usage: 2. A source that
+/// fails gives 4, a sink that fails 5, and want of memory 6.
 pub fn run_tool<S: Source, W: Sink, L: Dial>(
     alloc: Global,
     words: &[String],

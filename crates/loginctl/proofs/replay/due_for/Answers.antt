@@ -1,4 +1,5 @@
 use Rattle.std.proofs.Common.{sym, subst, ℕ, List, arith, Err}
+use Rattle.script_text.specs.Grammar.{Accepts}
 use Rattle.script_text.specs.Reading.{Reads}
 use Rattle.script_text.specs.declared.ScriptFault.{ScriptFault}
 use Rattle.loginctl.specs.Replayed.{IsDue, overlong, refused, replayed}
@@ -18,5 +19,6 @@ pub returns-in-Err-BadLine : goal.returns-in-Err-BadLine
 returns-in-Err-BadLine c =
     due-refused c.args.input.now c.refused-in-Err-BadLine.result c.in-Err-BadLine.line
     (refused c.in-Err-BadLine.line (let short = c.if-input-gt-LONGEST_SCRIPT.false in omega (arith, short))
+    (subst (λ (f : ScriptFault). Accepts c.args.input.now (Err f)) c.in-Err-BadLine.field-0-is (c.in-Err-BadLine.ensures {u = tt}).accepts)
     (subst (λ (f : ScriptFault). Reads c.args.input.now (Err f)) c.in-Err-BadLine.field-0-is (c.in-Err-BadLine.ensures {u = tt}).reads))
     c.refused-in-Err-BadLine.ensures.status c.refused-in-Err-BadLine.ensures.line
