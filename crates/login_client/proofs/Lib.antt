@@ -1,4 +1,5 @@
 pub mod Due
+pub mod HeardOf
 pub mod Keeping
 pub mod Meaning
 pub mod Moves

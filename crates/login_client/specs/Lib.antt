@@ -3,6 +3,7 @@ pub mod Claims
 pub mod Clients
 pub mod Conversation
 pub mod Exchange
+pub mod Heard
 pub mod Hearing
 pub mod Methods
 pub mod Phases

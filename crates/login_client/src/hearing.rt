@@ -2,6 +2,7 @@
 //!
 //! MySQL client/server protocol documentation, "Connection Phase Packets" and "Generic Response Packets".
 
+ghost use Rattle.login_client.specs.Heard.{heard_of};
 ghost use Rattle.login_client.specs.Hearing.{IsHeard};
 ghost use Rattle.std.specs.Prelude.{◌≡◌, true, IfOk, ◌∷◌, List, ℕ};
 
@@ -33,8 +34,10 @@ pub enum Heard {
 }
 
 /// What a payload says.
+#[tactic(auto, using(crate::proofs::HeardOf::result_read))]
 pub(crate) fn hear(alloc: Global, payload: &[u8]) -> Result<Heard, Memory>
-    ensures { IfOk result (λ heard. IsHeard payload.now heard) }
+    ensures meant { IfOk result (λ heard. IsHeard payload.now heard) }
+    ensures read { IfOk result (λ heard. heard ≡ heard_of payload.now) }
 {
     match payload {
         [] => Ok(Heard::Other),

@@ -6,6 +6,7 @@ ghost use Rattle.lg_outside.specs.Traffic.{Traffic};
 ghost use Rattle.login_client.specs.Acting.{Acts};
 ghost use Rattle.login_client.specs.Conversation.{ClientTalk, conversation};
 ghost use Rattle.login_client.specs.Exchange.{Ends, EndsAs, EndsAsDue, EndsWithin, IsDecided, IsExchange, Stand};
+ghost use Rattle.login_client.specs.Heard.{heard_of};
 ghost use Rattle.login_client.specs.Hearing.{IsHeard};
 ghost use Rattle.login_client.specs.declared.ends.ClientAct.TheVariants.{Done};
 ghost use Rattle.login_client.specs.Secrets.{KeepsTo};
@@ -24,6 +25,11 @@ use packet_frame::Packet;
 pub fn payloads_have_one_meaning()
     ensures { (payload : List ℕ) (heard other : Heard) →
         IsHeard payload heard → IsHeard payload other → heard ≡ other }
+{}
+
+/// What a payload says is what its first byte and the message's reader tell.
+pub fn payloads_say_what_is_read()
+    ensures { (payload : List ℕ) (heard : Heard) → IsHeard payload heard ↔ (heard ≡ heard_of payload) }
 {}
 
 /// What a client has written, and its result, are determined by the payloads that it got.
