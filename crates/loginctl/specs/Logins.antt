@@ -1,8 +1,6 @@
 -- What `login` does and prints: the client's result in words, and a status.
-use Rattle.std.specs.Prelude.{◌≡◌, ℕ, Bool, List, [], ◌++◌, ◌∷◌, codes, decimal, Option, unwrap_or, if◌then◌else◌}
+use Rattle.std.specs.Prelude.{◌≡◌, ℕ, Bool, List, [], ◌++◌, ◌∷◌, Option, unwrap_or, if◌then◌else◌}
 use Rattle.lg_outside.specs.Traffic.{Traffic}
-use Rattle.packet_frame.specs.declared.packets.FrameFault.{FrameFault}
-use Rattle.packet_frame.specs.declared.packets.FrameFault.TheVariants.{TooLarge, OutOfOrder, Memory as NoMemory}
 use Rattle.login_client.specs.Conversation.{conversation}
 use Rattle.login_client.specs.Exchange.{EndsAs}
 use Rattle.login_client.specs.declared.claims.Claim.{Claim}
@@ -10,8 +8,7 @@ use Rattle.login_client.specs.declared.claims.Secrets.{Secrets}
 use Rattle.login_client.specs.declared.claims.ClientOptions.{ClientOptions}
 use Rattle.login_client.specs.declared.ends.LoginEnd.{LoginEnd}
 use Rattle.login_client.specs.declared.ends.LoginEnd.TheVariants.{Opened, Refused, Malformed, Framing, WontSend, PeerClosed, LinkFault, Memory}
-use Rattle.login_client.specs.declared.ends.Reason.{Reason}
-use Rattle.login_client.specs.declared.ends.Reason.TheVariants.{UnknownMethod, NoSecret, NotLocal, ClearNotPermitted}
+use Rattle.client_wire.specs.Words.{end_words}
 use Rattle.loginctl.specs.LoginWords.{Choice}
 use Rattle.loginctl.specs.Printing.{Printed, Wrote}
 
@@ -29,29 +26,6 @@ options_of c = record { flags = flags_of c.expired; clear = c.clear }
 
 abbrev pub claim_of : Choice → Bool → Claim
 claim_of c local = record { user = unwrap_or c.user []; secrets = secrets_of c; options = options_of c; local = local }
-
--- the place of a fault of packets
-abbrev pub place_of : FrameFault → ℕ
-place_of (TooLarge at) = at
-place_of (OutOfOrder at want got) = at
-place_of NoMemory = 0
-
-unfoldable pub reason_word : Reason → List ℕ
-reason_word UnknownMethod = codes "unknownmethod"
-reason_word NoSecret = codes "nosecret"
-reason_word NotLocal = codes "notlocal"
-reason_word ClearNotPermitted = codes "notpermitted"
-
--- the words of a result
-unfoldable pub end_words : LoginEnd → List ℕ
-end_words Opened = codes "opened"
-end_words (Refused number) = codes "refused " ++ decimal number
-end_words (Malformed at) = codes "malformed " ++ decimal at
-end_words (Framing fault) = codes "framing " ++ decimal (place_of fault)
-end_words (WontSend reason) = codes "wontsend " ++ reason_word reason
-end_words PeerClosed = codes "closed"
-end_words LinkFault = codes "linkfault"
-end_words Memory = []
 
 abbrev pub login_line : LoginEnd → List ℕ
 login_line end = end_words end ++ 10 ∷ []

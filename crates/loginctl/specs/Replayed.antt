@@ -3,8 +3,9 @@ use Rattle.std.specs.Prelude.{ℕ, ◌≤◌, ◌<◌, List, [], ◌∷◌, ◌+
 use Rattle.script_text.specs.Grammar.{Spells}
 use Rattle.script_text.specs.Reading.{Contents, IsBadLine}
 use Rattle.session_world.specs.Standing.{replay_text}
-use Rattle.session_world.specs.Transcripts.{IsHistory, all_lines}
-use Rattle.session_world.specs.Worlds.{World, after_all, new_world}
+use Rattle.session_world.specs.Events.{all_printed, lines_among}
+use Rattle.session_world.specs.Replays.{Replay, after_events, new_replay}
+use Rattle.session_world.specs.Transcripts.{IsHistory}
 
 -- the most bytes of a script
 abbrev pub longest_script : ℕ
@@ -14,15 +15,15 @@ longest_script = 16777216
 unfoldable pub bad_line : ℕ → List ℕ
 bad_line number = codes "bad line " ++ decimal number ++ 10 ∷ []
 
--- the world that a script starts with
-abbrev pub start_of : Contents → World
-start_of script = new_world script.setup.accounts script.setup.settings
+-- the replay that a script starts with
+abbrev pub start_of : Contents → Replay
+start_of script = new_replay script.setup.accounts script.setup.settings
 
 -- the entries that are printed for a script's events are a legal history
 abbrev pub IsLegalRun : Contents → Type 0
 IsLegalRun script =
-    IsHistory script.setup.accounts script.setup.settings (after_all (start_of script) script.events).common.log
-    (all_lines (start_of script) script.events)
+    IsHistory script.setup.accounts script.setup.settings (after_events (start_of script) script.events).world.common.log
+    (lines_among (all_printed (start_of script) script.events))
 
 -- the text for a script
 abbrev pub script_text : Contents → List ℕ

@@ -4,16 +4,15 @@ ghost use Rattle.lg_outside.specs.Faults.{Rose};
 ghost use Rattle.login_client.specs.Claims.{AreFit, AreUsable};
 ghost use Rattle.login_client.specs.Exchange.{EndsAs};
 ghost use Rattle.loginctl.specs.LoginWords.{IsFit, choice_of, text_of};
-ghost use Rattle.loginctl.specs.Logins.{AnswersLogin, LogsIn, end_words, login_line, login_status, options_of, reason_word, secrets_of, place_of, IsTold};
-ghost use Rattle.std.specs.Prelude.{◌≡◌, ◌≤◌, ◌++◌, [], ◌↔◌, IsTrue, decimal, IfOk, OnOk, false, unwrap_or};
+ghost use Rattle.loginctl.specs.Logins.{AnswersLogin, LogsIn, login_line, login_status, options_of, secrets_of, IsTold};
+ghost use Rattle.std.specs.Prelude.{◌≡◌, ◌≤◌, ◌++◌, [], ◌↔◌, IsTrue, IfOk, false, unwrap_or};
 
 use crate::login_words::Chosen;
 use crate::printing::print;
-use itoa::Buffer;
+use client_wire::add_words;
 use lg_base::{Bytes, Memory, Out};
 use lg_outside::{Dial, Sink};
-use login_client::{ClientOptions, LoginEnd, Reason, Secrets, login};
-use packet_frame::FrameFault;
+use login_client::{ClientOptions, LoginEnd, Secrets, login};
 use std::alloc::Global;
 
 /// PROTOCOL_41, TRANSACTIONS, SECURE_CONNECTION, PLUGIN_AUTH, PLUGIN_AUTH_LENENC_CLIENT_DATA and
@@ -98,71 +97,6 @@ fn path_of(chosen: &Chosen) -> &str {
     match &chosen.socket {
         Some(path) => path.as_str(),
         None => "",
-    }
-}
-
-/// The word for a reason.
-#[tactic(auto, unfolding(crate::specs::Logins::reason_word))]
-fn reason_word(reason: Reason) -> &'static [u8]
-    ensures { result.now ≡ reason_word reason }
-{
-    match reason {
-        Reason::UnknownMethod => b"unknownmethod",
-        Reason::NoSecret => b"nosecret",
-        Reason::NotLocal => b"notlocal",
-        Reason::ClearNotPermitted => b"notpermitted",
-    }
-}
-
-/// Adds a number in decimal digits.
-fn add_number(text: &mut Out, number: u64) -> Result<(), Memory>
-    ensures { OnOk result (text.new ≡ text.old ++ decimal number) }
-{
-    let mut digits = Buffer::new();
-    text.bytes(digits.format(number).as_bytes())
-}
-
-/// The place of a fault of packets.
-fn place_of(fault: FrameFault) -> u64
-    ensures { result ≡ place_of fault }
-{
-    match fault {
-        FrameFault::TooLarge { at } => at,
-        FrameFault::OutOfOrder {
-            at,
-            want: _,
-            got: _,
-        } => at,
-        FrameFault::Memory => 0,
-    }
-}
-
-/// Adds the words of a result.
-#[tactic(auto, unfolding(crate::specs::Logins::end_words))]
-fn add_words(text: &mut Out, end: LoginEnd) -> Result<(), Memory>
-    ensures { OnOk result (text.new ≡ text.old ++ end_words end) }
-{
-    match end {
-        LoginEnd::Opened => text.bytes(b"opened"),
-        LoginEnd::Refused { number } => {
-            text.bytes(b"refused ")?;
-            add_number(text, u64::from(number))
-        }
-        LoginEnd::Malformed { at } => {
-            text.bytes(b"malformed ")?;
-            add_number(text, at)
-        }
-        LoginEnd::Framing(fault) => {
-            text.bytes(b"framing ")?;
-            add_number(text, place_of(fault))
-        }
-        LoginEnd::WontSend(reason) => {
-            text.bytes(b"wontsend ")?;
-            text.bytes(reason_word(reason))
-        }
-        LoginEnd::PeerClosed => text.bytes(b"closed"),
-        LoginEnd::LinkFault => text.bytes(b"linkfault"),
-        LoginEnd::Memory => text.bytes(b""),
     }
 }
 

@@ -1,11 +1,11 @@
 -- A text cut at its first separator.
-use Rattle.std.proofs.Common.{◌≡◌, ℕ, ◌+◌, Bool, true, false, cond, List, [], ◌∷◌, length, take, drop, Some, None, refl, sym, ap, ◌∙◌, arith}
-use Rattle.std.specs.List.{position, position_from, position_or_len, slice_split, onto_first}
-use Rattle.std.proofs.lemmas.List.Splits.{slice_split-cons_no, slice_split_first}
+use Rattle.std.proofs.Common.{◌≡◌, ℕ, ◌+◌, Bool, true, false, cond, List, [], ◌∷◌, length, take, drop, Some, None, refl, sym, ap, ◌∙◌, arith, eqb}
+use Rattle.std.specs.List.{join_with_byte, position, position_from, position_or_len, slice_split, onto_first}
+use Rattle.std.proofs.lemmas.List.Splits.{join_with_byte-slice_split, slice_split-cons_no, slice_split_first}
 use Rattle.std.proofs.lemmas.Iterator.Adapters.{position_from-zero}
 use Rattle.std.specs.Prelude.{nat_lt}
 use borrow.Author.Tests.{ltb-true}
-use Rattle.script_text.specs.Words.{is_none_left, pair, single}
+use Rattle.script_text.specs.Words.{is_none_left, pair, single, with_text}
 
 none-from : (p : ℕ → Bool) (i : ℕ) (xs : List ℕ) → position_from p i xs ≡ None → slice_split p xs ≡ xs ∷ []
 none-from p i [] h = refl
@@ -58,6 +58,14 @@ pub not_pair : (p : ℕ → Bool) (first second xs : List ℕ) → pair (first �
 not_pair p first second xs =
     let more = parted p xs in
     ap (λ (parts : List (List ℕ)). pair (first ∷ second ∷ parts)) more.2
+
+-- a word and the text behind its space
+pub worded : (words : List (List ℕ)) (word text : List ℕ) → words ≡ word ∷ slice_split (λ b. eqb b 32) text → Some (word, text) ≡ with_text words
+worded words word text split =
+    let more = parted (λ b. eqb b 32) text in
+    ap (λ (text : List ℕ). Some (word, text))
+    (sym (join_with_byte-slice_split 32 text) ∙ ap (λ (parts : List (List ℕ)). join_with_byte 32 parts) more.2)
+    ∙ ap (λ (parts : List (List ℕ)). with_text (word ∷ parts)) (sym more.2) ∙ ap (λ (parts : List (List ℕ)). with_text parts) (sym split)
 
 -- behind a separator there is a word
 pub not_none_left : (p : ℕ → Bool) (xs : List ℕ) → is_none_left (slice_split p xs) ≡ false

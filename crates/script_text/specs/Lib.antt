@@ -1,4 +1,6 @@
 pub mod Words
+pub mod ClientLines
+pub mod EventLines
 pub mod Lines
 pub mod Reading
 pub mod Users

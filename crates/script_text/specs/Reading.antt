@@ -7,7 +7,8 @@ use Rattle.account_history.specs.declared.entries.Opening.{Opening}
 use Rattle.lg_base.specs.declared.allocation.Memory.{Memory}
 use Rattle.account_machine.specs.Openings.{are_openings}
 use Rattle.account_rules.specs.declared.accounts.Settings.{Settings}
-use Rattle.script_text.specs.Lines.{is_event, line_of}
+use Rattle.script_text.specs.EventLines.{IsEvent}
+use Rattle.script_text.specs.Lines.{line_of}
 use Rattle.script_text.specs.Words.{parts}
 use Rattle.script_text.specs.declared.event.Event.{Event}
 use Rattle.script_text.specs.declared.event.Setup.{Setup}
@@ -81,7 +82,7 @@ after_lines (line ∷ lines) p = option_and_then (λ q. after_lines lines q) (af
 
 -- events that lines can give
 abbrev pub AreEvents : List Event → Type 0
-AreEvents events = All (λ event. is_event event ≡ true) events
+AreEvents events = All IsEvent events
 
 -- settings and events that lines can give
 pub record AreGiven (settings : Settings) (events : List Event) : Type 0 where

@@ -1,7 +1,7 @@
 -- The words of a line, and what a word means: bytes, a number, a session.
 use Rattle.std.specs.Prelude.{ℕ, ◌+◌, ◌-◌, ◌*◌, ◌==◌, nat_le, Bool, true, false, List, [], ◌∷◌, Option, Some, None, Result, Ok, Err, codes, if◌then◌else◌}
 use Rattle.std.specs.Char.{is_ascii_digit}
-use Rattle.std.specs.List.{slice_split}
+use Rattle.std.specs.List.{join_with_byte, slice_split}
 use Rattle.std.specs.Str.{bytes_eq}
 use Rattle.hex.specs.Hex.{decode_of}
 use Rattle.hex.specs.declared.error.FromHexError.{FromHexError}
@@ -33,6 +33,18 @@ single _ = None
 abbrev pub pair : List (List ℕ) → Option (List ℕ × List ℕ)
 pair (first ∷ second ∷ []) = Some (first, second)
 pair _ = None
+
+-- one to three words
+abbrev pub one_to_three : List (List ℕ) → Option (List ℕ × Option (List ℕ) × Option (List ℕ))
+one_to_three (first ∷ []) = Some (first, None, None)
+one_to_three (first ∷ second ∷ []) = Some (first, Some second, None)
+one_to_three (first ∷ second ∷ third ∷ []) = Some (first, Some second, Some third)
+one_to_three _ = None
+
+-- one word, and the text behind its space
+abbrev pub with_text : List (List ℕ) → Option (List ℕ × List ℕ)
+with_text (first ∷ word ∷ words) = Some (first, join_with_byte 32 (word ∷ words))
+with_text _ = None
 
 -- bytes that are there
 abbrev pub some_bytes : Result (List ℕ) FromHexError → Option (List ℕ)

@@ -3,6 +3,7 @@
 use account_history::Opening;
 use account_rules::Settings;
 use lg_base::{Bytes, Items};
+use login_client::Secrets;
 
 /// What stands at the start.
 #[derive(Debug, Drop)]
@@ -16,17 +17,59 @@ pub struct Setup {
 #[derive(Debug, PartialEq, Eq, Drop)]
 pub enum Event {
     /// The clock reads this from here on.
-    Clock { reading: u64 },
+    Clock {
+        reading: u64,
+    },
     /// A session begins whose peer is the script.
-    Open { session: u32 },
+    Open {
+        session: u32,
+    },
+    /// A session begins whose peer is a login client.
+    Client {
+        session: u32,
+        flags: u32,
+        user: Bytes,
+        secrets: Secrets,
+    },
     /// The peer of a session sends bytes.
-    FromPeer { session: u32, bytes: Bytes },
+    FromPeer {
+        session: u32,
+        bytes: Bytes,
+    },
+    /// At most so many further bytes of a session's client come to the server.
+    Up {
+        session: u32,
+        most: u64,
+    },
+    /// At most so many further bytes of the server come to a session's client.
+    Down {
+        session: u32,
+        most: u64,
+    },
     /// The one thing that a session waits for is done.
-    Step { session: u32 },
+    Step {
+        session: u32,
+    },
     /// What a session can do is done, as long as there is something.
-    Run { session: u32 },
+    Run {
+        session: u32,
+    },
+    /// The client of a session writes COM_QUERY with this text.
+    Say {
+        session: u32,
+        text: Bytes,
+    },
+    /// The client of a session writes this payload as a command.
+    Command {
+        session: u32,
+        payload: Bytes,
+    },
     /// The peer of a session ends.
-    Close { session: u32 },
+    Close {
+        session: u32,
+    },
     /// The link of a session fails at its next read.
-    Cut { session: u32 },
+    Cut {
+        session: u32,
+    },
 }

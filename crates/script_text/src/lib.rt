@@ -1,7 +1,8 @@
 //! The text of a replay script, read into a setup and a list of events.
 //!
 //! **[`Script::read`] gives what a text says if each of its lines fits behind those before it, and else
-//! the number of the first that doesn't.** The setup is one of which `account_machine` can make a start.
+//! the number of the first that doesn't.** The setup is one of which `account_machine` can make a start, and
+//! `login_client` can make a client of what each `client` line says.
 //!
 //! A script is this project's own format, one line after another, each ended by LF:
 //!
@@ -14,19 +15,28 @@
 //! open 1
 //! bytes 1 0100000000
 //! run 1
+//! client 2 1028a200 616e6e 736563726574
+//! down 2 20
+//! run 2
+//! say 2 FLUSH PRIVILEGES
+//! run 2
 //! end
 //! ```
 //!
-//! `specs/Lines.antt` says what a line says, `specs/Reading.antt` which lines fit where, and
-//! `specs/Grammar.antt` what a script is as a whole; `docs/REPLAY.md` explains them by example. Below stand `lg_base`, `account_rules` for settings, `account_history` and
-//! `account_machine` for the accounts of a start, `hex` and `thiserror`.
+//! `specs/Lines.antt` says what a line says, with `specs/EventLines.antt` and `specs/ClientLines.antt` for what
+//! happens, `specs/Reading.antt` which lines fit where, and `specs/Grammar.antt` what a script is as a whole;
+//! `docs/REPLAY.md` explains them by example. Below stand `lg_base`, `account_rules` for settings,
+//! `account_history` and `account_machine` for the accounts of a start, `login_client` and `auth_packets` for
+//! what a client logs in with, `hex` and `thiserror`.
 #![tactic(auto)]
 
 ghost use Rattle.script_text.specs.Reading.{Finishes, IsContents, Reads};
 ghost use Rattle.std.specs.Prelude.{IfOk};
 
 mod accounts;
+mod client_line;
 pub mod event;
+mod event_line;
 mod line;
 mod progress;
 #[cfg(test)]
@@ -103,7 +113,8 @@ impl Script {
         &self.setup
     }
 
-    /// What happens, in order. No session has the number 0.
+    /// What happens, in order. No session has the number 0, and `login_client` can make a client of what stands
+    /// in each `Client`, where the method in the clear is permitted.
     pub fn events(&self) -> &[Event]
         ensures same { result.now ≡ (self.now).events }
         ensures given { AreEvents result.now }

@@ -1,12 +1,13 @@
 //! A line of a script, and what it says.
 
 ghost use Rattle.account_machine.specs.Openings.{is_opening_password, is_opening_user};
-ghost use Rattle.script_text.specs.Lines.{IsGiven, bytes_of, keyword_of, line_of, opening_of, reading_of, said_by, session_of, setting_of};
-ghost use Rattle.script_text.specs.Words.{number_word, pair, single};
+ghost use Rattle.script_text.specs.Lines.{IsGiven, keyword_of, line_of, opening_of, said_by, setting_of};
+ghost use Rattle.script_text.specs.Words.{number_word, pair};
 ghost use Rattle.std.specs.Prelude.{◌≡◌, IfOk, option_map};
 
 use crate::event::Event;
-use crate::words::{Words, bytes_of, number_of, session_of};
+use crate::event_line::{EventWord, event_word_of, read_event};
+use crate::words::{Words, bytes_of, number_of};
 use account_history::Opening;
 use lg_base::Memory;
 use std::alloc::Global;
@@ -16,13 +17,7 @@ use std::alloc::Global;
 pub enum Keyword {
     Account,
     Set,
-    Clock,
-    Open,
-    Bytes,
-    Step,
-    Run,
-    Close,
-    Cut,
+    Event(EventWord),
     End,
 }
 
@@ -59,24 +54,10 @@ fn keyword_of(word: &[u8]) -> Option<Keyword>
         Some(Keyword::Account)
     } else if word == b"set".as_slice() {
         Some(Keyword::Set)
-    } else if word == b"clock".as_slice() {
-        Some(Keyword::Clock)
-    } else if word == b"open".as_slice() {
-        Some(Keyword::Open)
-    } else if word == b"bytes".as_slice() {
-        Some(Keyword::Bytes)
-    } else if word == b"step".as_slice() {
-        Some(Keyword::Step)
-    } else if word == b"run".as_slice() {
-        Some(Keyword::Run)
-    } else if word == b"close".as_slice() {
-        Some(Keyword::Close)
-    } else if word == b"cut".as_slice() {
-        Some(Keyword::Cut)
     } else if word == b"end".as_slice() {
         Some(Keyword::End)
     } else {
-        None
+        event_word_of(word).map(|word| Keyword::Event(word))
     }
 }
 
@@ -143,36 +124,6 @@ fn read_setting(arguments: &Words) -> Option<Setting>
     }
 }
 
-/// The reading of `clock N`.
-fn read_clock(arguments: &Words) -> Option<u64>
-    ensures { result ≡ reading_of (single arguments.now) }
-{
-    number_of(arguments.one()?, u64::MAX)
-}
-
-/// The session of a line that names one and nothing else.
-fn read_session(arguments: &Words) -> Option<u32>
-    ensures { result ≡ session_of (single arguments.now) }
-{
-    session_of(arguments.one()?)
-}
-
-/// What happens by `bytes S HEX`.
-fn read_bytes(alloc: Global, arguments: &Words) -> Result<Option<Event>, Memory>
-    ensures { IfOk result (λ found. found ≡ bytes_of (pair arguments.now)) }
-{
-    let Some((session, bytes)) = arguments.two() else {
-        return Ok(None);
-    };
-    let Some(session) = session_of(session) else {
-        return Ok(None);
-    };
-    let Some(bytes) = bytes_of(alloc, bytes)? else {
-        return Ok(None);
-    };
-    Ok(Some(Event::FromPeer { session, bytes }))
-}
-
 /// What a line says by its first word and the words behind it.
 fn said_by(alloc: Global, keyword: Keyword, arguments: &Words) -> Result<Option<Line>, Memory>
     ensures { IfOk result (λ found. found ≡ said_by keyword arguments.now) }
@@ -182,30 +133,14 @@ fn said_by(alloc: Global, keyword: Keyword, arguments: &Words) -> Result<Option<
             opening,
         ))),
         Keyword::Set => Ok(read_setting(arguments).map(|setting| Line::Set(setting))),
-        Keyword::Bytes => Ok(read_bytes(alloc, arguments)?.map(|event| Line::Happens(event))),
+        Keyword::Event(word) => Ok(read_event(alloc, word, arguments)?.map(|event| Line::Happens(
+            event,
+        ))),
         Keyword::End => Ok(if arguments.is_empty() {
             Some(Line::End)
         } else {
             None
         }),
-        Keyword::Clock => Ok(read_clock(arguments).map(|reading| Line::Happens(Event::Clock {
-            reading,
-        }))),
-        Keyword::Open => Ok(read_session(arguments).map(|session| Line::Happens(Event::Open {
-            session,
-        }))),
-        Keyword::Step => Ok(read_session(arguments).map(|session| Line::Happens(Event::Step {
-            session,
-        }))),
-        Keyword::Run => Ok(read_session(arguments).map(|session| Line::Happens(Event::Run {
-            session,
-        }))),
-        Keyword::Close => Ok(read_session(arguments).map(|session| Line::Happens(Event::Close {
-            session,
-        }))),
-        Keyword::Cut => Ok(read_session(arguments).map(|session| Line::Happens(Event::Cut {
-            session,
-        }))),
     }
 }
 

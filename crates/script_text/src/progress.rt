@@ -59,7 +59,8 @@ fn with_setting(mut settings: Settings, setting: Setting) -> Settings
 
 impl Progress {
     ghost use Rattle.account_machine.specs.Openings.{is_opening};
-    ghost use Rattle.script_text.specs.Lines.{is_event, is_setting};
+    ghost use Rattle.script_text.specs.EventLines.{IsEvent};
+    ghost use Rattle.script_text.specs.Lines.{is_setting};
     ghost use Rattle.script_text.specs.Reading.{AreEvents, IsSetup, Takes, after_line, setup_of, start, taken};
     ghost use Rattle.script_text.specs.declared.progress.Phase.TheVariants as phase;
     ghost use Rattle.script_text.specs.declared.line.Line.TheVariants as line;
@@ -108,7 +109,7 @@ impl Progress {
 
     /// Takes an event.
     fn take_event(&mut self, event: Event) -> Result<bool, Memory>
-        requires { is_event event ≡ true }
+        requires { IsEvent event }
         ensures { Takes (taken (line.Happens event) self.old) self.new result }
     {
         if self.phase == Phase::Ended {

@@ -1,5 +1,7 @@
 //! Scripts as texts: what is read of them, and which line is the first that doesn't fit.
 
+mod clients;
+
 use super::*;
 use account_machine::Accounts;
 use account_rules::Settings;
@@ -57,7 +59,7 @@ fn stands(rt: &impl Abort, script: &Script, place: usize, user: &[u8], password:
 }
 
 #[test]
-fn each_kind_of_line(rt: HostRuntime) -> Result<(), Fail> {
+fn lines_without_a_client(rt: HostRuntime) -> Result<(), Fail> {
     let alloc = rt.alloc();
     let script = Script::read(
         alloc,
@@ -74,11 +76,11 @@ fn each_kind_of_line(rt: HostRuntime) -> Result<(), Fail> {
     };
     assert!(rt; script.setup().settings == settings);
     assert_eq!(rt; script.events().len(), 9);
-    events_of_each_kind(&rt, alloc, &script)
+    events_without_a_client(&rt, alloc, &script)
 }
 
-/// The events of the script with each kind of line.
-fn events_of_each_kind(rt: &impl Abort, alloc: Global, script: &Script) -> Result<(), Fail> {
+/// The events of the script with each kind of line that needs no client.
+fn events_without_a_client(rt: &impl Abort, alloc: Global, script: &Script) -> Result<(), Fail> {
     let reading = 18446744073709551615;
     happens(rt, script, 0, Event::Clock { reading });
     happens(
@@ -251,12 +253,15 @@ fn other_lines(rt: HostRuntime) -> Result<(), Fail> {
         b"\t",
         b" # a comment begins a line",
         b"admin FLUSH PRIVILEGES",
-        b"client 1 00082a00 61 62",
         b"accept 61 62 63",
-        b"up 1 1",
-        b"down 1 1",
-        b"say 1 x",
-        b"command 1 00",
+        b"Client 1 1028a200 61 62",
+        b"clients 1 1028a200 61 62",
+        b"Up 1 1",
+        b"ups 1 1",
+        b"dow 1 1",
+        b"says 1 x",
+        b"SAY 1 x",
+        b"commands 1 00",
         b"fail keeper",
         b"fail verifier",
     ] {

@@ -49,8 +49,8 @@ impl<'a> Model for Words<'a> {
 }
 
 impl<'a> Words<'a> {
-    ghost use Rattle.script_text.specs.Words.{is_none_left, pair, single, words};
-    ghost use Rattle.std.specs.Prelude.{◌≡◌, ◌∷◌, option_map};
+    ghost use Rattle.script_text.specs.Words.{is_none_left, one_to_three, pair, single, with_text, words};
+    ghost use Rattle.std.specs.Prelude.{◌≡◌, ◌∷◌, [], MatchOption, option_map};
     ghost use Rattle.std.specs.Option.{option_copied};
 
     /// The first word of a line, and the words behind it.
@@ -100,6 +100,50 @@ impl<'a> Words<'a> {
         match cut(rest, b' ') {
             (second, None) => Some((first, second)),
             (_, Some(_)) => None,
+        }
+    }
+
+    /// The next word and those behind it, if one is left.
+    pub fn next(&self) -> Option<(&'a [u8], Words<'a>)>
+        ensures { MatchOption result (self.now ≡ []) (λ p. self.now ≡ p.0.now ∷ p.1) }
+    {
+        let Some(rest) = self.rest else {
+            return None;
+        };
+        Some(Words::split(rest))
+    }
+
+    /// The words, if one to three are left.
+    pub fn one_to_three(&self) -> Option<(&'a [u8], Option<&'a [u8]>, Option<&'a [u8]>)>
+        ensures { option_map (λ p. (p.0.now, option_copied p.1, option_copied p.2)) result ≡ one_to_three self.now }
+    {
+        let Some((first, words)) = self.next() else {
+            return None;
+        };
+        let Some((second, words)) = words.next() else {
+            return Some((first, None, None));
+        };
+        let Some((third, words)) = words.next() else {
+            return Some((first, Some(second), None));
+        };
+        if words.is_empty() {
+            Some((first, Some(second), Some(third)))
+        } else {
+            None
+        }
+    }
+
+    /// The next word and the text behind its space, if one stands there.
+    pub fn with_text(&self) -> Option<(&'a [u8], &'a [u8])>
+        ensures { option_map (λ p. (p.0.now, p.1.now)) result ≡ with_text self.now }
+    {
+        let Some(rest) = self.rest else {
+            return None;
+        };
+        let (word, text) = cut(rest, b' ');
+        match text {
+            None => None,
+            Some(text) => Some((word, text)),
         }
     }
 }

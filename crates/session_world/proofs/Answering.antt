@@ -1,15 +1,13 @@
 -- What a session is given is of the kind that it waits for.
-use Rattle.std.proofs.Common.{◌≡◌, refl, ap, sym, ◌∙◌, subst, ℕ, zero, suc, ◌+◌, ◌/◌, ◌%◌, ◌<◌, true, IsTrue, List, [], ◌∷◌, length, Option, Some, None, IfSome, arith}
+use Rattle.std.proofs.Common.{◌≡◌, refl, ap, sym, ◌∙◌, subst, ℕ, zero, suc, ◌+◌, ◌/◌, ◌%◌, ◌<◌, true, IsTrue, List, [], ◌∷◌, arith}
 use Rattle.std.specs.List.{list_all}
 use Rattle.std.proofs.lemmas.Bool.{le-leb}
 use Rattle.std.proofs.lemmas.List.Folds.{list_all-append}
 use Rattle.factor_chain.specs.CheckedOf.{CheckedOf}
-use Rattle.factor_chain.specs.declared.credentials.InForce.{InForce}
 use Rattle.factor_chain.specs.declared.credentials.Look.{Look}
 use Rattle.factor_chain.specs.declared.evidence_list.Evidence.{Evidence}
 use Rattle.account_history.specs.declared.entries.Reply.{Reply}
 use Rattle.account_history.specs.declared.entries.Who.{Who}
-use Rattle.account_machine.specs.Labels.{ShowsFewLabels}
 use Rattle.session_talk.proofs.Asking.{asks_are_answered}
 use Rattle.session_talk.specs.Logins as login
 use Rattle.session_talk.specs.Talk.{Talk}
@@ -18,7 +16,7 @@ use Rattle.session_talk.specs.declared.actions.Ask.{Ask}
 use Rattle.session_talk.specs.declared.actions.Ask.TheVariants as ask
 use Rattle.session_talk.specs.declared.inputs.Input.{Input}
 use Rattle.session_talk.specs.declared.inputs.Input.TheVariants as input
-use Rattle.session_world.specs.Drawing.{digits, drawn_nonce}
+use Rattle.world_table.specs.Drawing.{digits, drawn_nonce}
 use Rattle.session_world.specs.Leading.{IsLookAsked}
 
 -- ## Nonces and looks
@@ -36,10 +34,6 @@ digits_are_salt (suc size) n =
 pub drawn_is_nonce : (nonce : List ℕ) (n : ℕ) → nonce ≡ drawn_nonce n → IsTrue (is_nonce nonce)
 unfolding drawn_nonce
 drawn_is_nonce nonce n is = ap is_nonce is ∙ digits_are_salt 20 n
-
-pub few_labels : (shown : Option InForce) → IfSome shown ShowsFewLabels → IsTrue (has_few_labels shown)
-few_labels None few = refl
-few_labels (Some account) few = le-leb (length account.labels) 2 few
 
 -- ## Answers
 

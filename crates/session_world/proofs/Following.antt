@@ -1,25 +1,29 @@
--- What is printed of a session over events is its transcript.
+-- What is printed of a session over doings is its transcript.
 use Rattle.std.proofs.Common.{◌≡◌, ◌≢◌, refl, ap, sym, ◌∙◌, subst, ℕ, ◌==◌, if◌then◌else◌, ◌⊎◌, inl, inr, Bool, true, false, List, [], ◌∷◌, ◌++◌, append-nil, append_assoc, Option, Some, None, option_to_list}
 use Rattle.std.proofs.lemmas.Bool.Decides.{eqb_tells}
 use Rattle.account_history.specs.declared.entries.Entry.{Entry}
-use Rattle.script_text.specs.declared.event.Event.{Event}
+use Rattle.account_history.specs.declared.entries.Opening.{Opening}
+use Rattle.account_rules.specs.declared.accounts.Settings.{Settings}
 use Rattle.session_talk.proofs.OverBytes.{wired_goes_on}
 use Rattle.session_talk.specs.Laws.{with_more}
 use Rattle.session_talk.specs.Logins.{session}
-use Rattle.session_talk.specs.Owed.{Own, Sent}
+use Rattle.session_talk.specs.Owed.{Own, Drew, Saw, Late, Did, Sent}
 use Rattle.session_talk.specs.Talk.{Talk, Over}
 use Rattle.session_talk.specs.Transcript.{Enters, ended, read_of}
 use Rattle.session_talk.specs.Wired.{Stream, Wired, after_all_sent, wired}
 use Rattle.session_talk.specs.declared.ends.SessionEnd.{SessionEnd}
+use Rattle.both_ends.specs.Meeting.{AreNonces}
 use Rattle.session_world.specs.declared.calls.Calls.TheVariants.{Nothing}
 use Rattle.session_world.specs.declared.calls.Peer.{Peer}
 use Rattle.session_world.specs.declared.calls.Peer.TheVariants.{Open, Closed, Failed}
-use Rattle.session_world.specs.Going.{Adds, Ends, Gone, Idle, Line, Sends, Stale, going}
-use Rattle.session_world.specs.Transcripts.{IsTranscript, SessionsAreTranscripts, as_told, bytes_of, ends_in, entries_in, lines_of, peer_at, sends_in, session_bytes, session_lines}
-use Rattle.session_world.specs.Worlds.{GoesOn, Move, Place, World, after_all, happens, move, moved, new_world, no_bytes, place_of}
+use Rattle.session_world.specs.Going.{Gone, going}
+use Rattle.world_table.specs.Printing.{Adds, Ends, Idle, Line, Sends, Stale}
+use Rattle.session_world.specs.Lines.{ends_in, entries_in, sends_in}
+use Rattle.session_world.specs.Transcripts.{DoingsAreTranscripts, IsTranscript, as_told, bytes_of, lines_of, peer_at, session_bytes, session_lines}
+use Rattle.session_world.specs.Worlds.{Doing, GoesOn, Move, Place, World, after_all, does, move, moved, new_world, no_bytes, place_of}
 use Rattle.session_world.proofs.Entering.{EntersOver, EntersFrom, enters_goes_on}
 use Rattle.session_world.proofs.Legally.{entries_append}
-use Rattle.session_world.proofs.Moving.{Waits, of_event}
+use Rattle.session_world.proofs.Moving.{Waits, of_doing}
 use Rattle.session_world.proofs.Transcribed.{GoesAsOwed, IsLive, IsOver, goes_as_owed}
 
 -- all bytes so far
@@ -33,6 +37,7 @@ owed_for number bytes owns = wired 0 (session number) (all_of bytes) owns
 -- a session at a place has sent and entered what is owed, and has ended where that says so
 pub record Stands (number : ℕ) (place : Place) (bytes : List ℕ) (sent : List Sent) (entries : List Entry) (how : List SessionEnd) : Type 0 where
   pub owns : List Own
+  pub nonces : AreNonces owns
   pub entered : EntersOver 0 (session number) (all_of bytes) owns entries
   pub sends : sent ≡ (owed_for number bytes owns).sent
   pub ends : how ≡ option_to_list (ended (as_told place.peer) (owed_for number bytes owns).at (owed_for number bytes owns).unread)
@@ -44,6 +49,13 @@ Follows number None bytes sent entries how = (bytes ≡ []) × (sent ≡ []) × 
 Follows number (Some place) bytes sent entries how = Stands number place bytes sent entries how
 
 -- ## One session goes on
+
+nonces_both : (owns more : List Own) → AreNonces owns → AreNonces more → AreNonces (owns ++ more)
+nonces_both [] more first second = second
+nonces_both (Drew nonce ∷ owns) more first second = (first.0, nonces_both owns more first.1 second)
+nonces_both (Saw look ∷ owns) more first second = nonces_both owns more first second
+nonces_both (Late ∷ owns) more first second = nonces_both owns more first second
+nonces_both (Did reply ∷ owns) more first second = nonces_both owns more first second
 
 as_live : (w : Wired) (next : ℕ) (at : Talk) (unread : Stream) → IsLive w next at unread →
     w ≡ record { sent = w.sent; next = next; at = at; unread = unread; unused = [] }
@@ -100,6 +112,7 @@ module _ (number : ℕ) (place : Place) (bytes more : List ℕ) (sent : List Sen
     live_on : Stands number (place_of peer g) (bytes ++ more) (sent ++ sends_in g.lines) (entries ++ entries_in g.lines) (how ++ ends_in g.lines)
     live_on = record {
       owns = x.owns ++ y.owns;
+      nonces = nonces_both x.owns y.owns x.nonces y.nonces;
       entered = enters_goes_on 0 (session number) (all_of bytes) more x.owns y.owns entries (entries_in g.lines) x.entered
           (subst (λ (w : Wired). EntersFrom w more y.owns (entries_in g.lines)) (sym is_stood) y.entered);
       sends = ap (λ (s : List Sent). s ++ sends_in g.lines) x.sends
@@ -120,7 +133,7 @@ module _ (number : ℕ) (place : Place) (bytes more : List ℕ) (sent : List Sen
 -- a session begins
 begins : (number : ℕ) (peer : Peer) (g : Gone) → GoesAsOwed peer 0 (session number) (all_of []) g →
     Stands number (place_of peer g) [] (sends_in g.lines) (entries_in g.lines) (ends_in g.lines)
-begins number peer g y = record { owns = y.owns; entered = y.entered; sends = y.sends; ends = y.ends; stands = y.stands }
+begins number peer g y = record { owns = y.owns; nonces = y.nonces; entered = y.entered; sends = y.sends; ends = y.ends; stands = y.stands }
 
 -- ## Lists
 
@@ -160,7 +173,7 @@ with_lines : (number : ℕ) (found : Option Place) (bytes : List ℕ) (lines mor
 with_lines number found bytes lines more f =
     same_place number found bytes bytes _ _ _ _ _ _ refl (sym (sends_append lines more)) (sym (entries_append lines more)) (sym (ends_append lines more)) f
 
--- ## An event
+-- ## An doing
 
 module _ (w : World) (number : ℕ) (bytes : List ℕ) (lines : List Line) (follows : FollowsLines number (w.places number) bytes lines) where
   abbrev AfterMove : Move → Type 0
@@ -181,7 +194,7 @@ module _ (w : World) (number : ℕ) (bytes : List ℕ) (lines : List Line) (foll
   AfterGoing peer more g test = FollowsLines number (if test then Some (place_of peer g) else w.places number)
       (bytes ++ (if test then more else [])) (lines ++ (if test then g.lines else []))
 
-  -- the event is for this session or for another
+  -- the doing is for this session or for another
   by_number : (other : ℕ) (peer : Peer) (more : List ℕ) (g : Gone) →
       (number ≡ other → FollowsLines number (Some (place_of peer g)) (bytes ++ more) (lines ++ g.lines)) →
       (((number == other) ≡ true) × (number ≡ other)) ⊎ (((number == other) ≡ false) × (number ≢ other)) →
@@ -217,45 +230,61 @@ module _ (w : World) (number : ℕ) (bytes : List ℕ) (lines : List Line) (foll
   goes_at other place peer more g y e ready = by_number other peer more g
       (λ is. goes_here place peer more g y (subst (λ (n : ℕ). w.places n ≡ Some place) (sym is) e) ready) (eqb_tells number other)
 
-  after_event : (event : Event) → AfterMove (move w event)
-  after_event event = of_event w AfterMove (record {
+  after_doing : (doing : Doing) → AfterMove (move w doing)
+  after_doing doing = of_doing w AfterMove (record {
     sets = λ reading. nothing (w.places number) follows;
     idles = λ other. idle_follows (number == other);
     opens = λ other e. opens_at other (going Open Nothing w.common 0 (session other) no_bytes) (goes_as_owed Open Nothing w.common 0 (session other) no_bytes) e;
     goes = λ other place peer calls more e ready.
         goes_at other place peer more (going peer calls w.common place.next place.at (with_more place.unread more))
         (goes_as_owed peer calls w.common place.next place.at (with_more place.unread more)) e ready;
-  }) event
+  }) doing
 
--- ## All events
+-- ## All doings
 
-follow_all : (w : World) (events : List Event) (number : ℕ) (bytes : List ℕ) (lines : List Line) → FollowsLines number (w.places number) bytes lines →
-    FollowsLines number ((after_all w events).places number) (bytes ++ session_bytes number w events) (lines ++ session_lines number w events)
+follow_all : (w : World) (doings : List Doing) (number : ℕ) (bytes : List ℕ) (lines : List Line) → FollowsLines number (w.places number) bytes lines →
+    FollowsLines number ((after_all w doings).places number) (bytes ++ session_bytes number w doings) (lines ++ session_lines number w doings)
 follow_all w [] number bytes lines f = nothing w number bytes lines f (w.places number) f
-follow_all w (first ∷ events) number bytes lines f =
-    subst (λ (bs : List ℕ). FollowsLines number ((after_all w (first ∷ events)).places number) bs (lines ++ session_lines number w (first ∷ events)))
-    (append_assoc bytes (bytes_of number (move w first)) (session_bytes number (happens w first).world events))
-    (subst (λ (ls : List Line). FollowsLines number ((after_all w (first ∷ events)).places number) ((bytes ++ bytes_of number (move w first)) ++ session_bytes number (happens w first).world events) ls)
-    (append_assoc lines (lines_of number (move w first)) (session_lines number (happens w first).world events))
-    (follow_all (happens w first).world events number (bytes ++ bytes_of number (move w first)) (lines ++ lines_of number (move w first))
-    (after_event w number bytes lines f first)))
+follow_all w (first ∷ doings) number bytes lines f =
+    subst (λ (bs : List ℕ). FollowsLines number ((after_all w (first ∷ doings)).places number) bs (lines ++ session_lines number w (first ∷ doings)))
+    (append_assoc bytes (bytes_of number (move w first)) (session_bytes number (does w first).world doings))
+    (subst (λ (ls : List Line). FollowsLines number ((after_all w (first ∷ doings)).places number) ((bytes ++ bytes_of number (move w first)) ++ session_bytes number (does w first).world doings) ls)
+    (append_assoc lines (lines_of number (move w first)) (session_lines number (does w first).world doings))
+    (follow_all (does w first).world doings number (bytes ++ bytes_of number (move w first)) (lines ++ lines_of number (move w first))
+    (after_doing w number bytes lines f first)))
+
+-- it is a transcript, and each nonce in it has 20 bytes
+pub record IsNonced (number : ℕ) (peer : Peer) (bytes : List ℕ) (lines : List Line) : Type 0 where
+  pub transcript : IsTranscript number peer bytes lines
+  pub nonces : AreNonces transcript.is.owns
 
 transcript_of : (number : ℕ) (found : Option Place) (bytes : List ℕ) (lines : List Line) → FollowsLines number found bytes lines →
-    IsTranscript number (peer_at found) bytes lines
+    IsNonced number (peer_at found) bytes lines
 unfolding wired read_of Enters
 transcript_of number None bytes lines f = record {
-  how = None;
-  ends = f.3;
-  is = record { owns = []; entered = (refl, f.2); sends = f.1; ends = refl };
+  transcript = record {
+    how = None;
+    ends = f.3;
+    is = record { owns = []; entered = (refl, f.2); sends = f.1; ends = refl };
+  };
+  nonces = tt;
 }
 transcript_of number (Some place) bytes lines f = record {
-  how = ended (as_told place.peer) (owed_for number bytes f.owns).at (owed_for number bytes f.owns).unread;
-  ends = f.ends;
-  is = record { owns = f.owns; entered = f.entered; sends = f.sends; ends = refl };
+  transcript = record {
+    how = ended (as_told place.peer) (owed_for number bytes f.owns).at (owed_for number bytes f.owns).unread;
+    ends = f.ends;
+    is = record { owns = f.owns; entered = f.entered; sends = f.sends; ends = refl };
+  };
+  nonces = f.nonces;
 }
 
-pub sessions_are_transcripts : SessionsAreTranscripts
-sessions_are_transcripts openings settings events number =
+pub nonced_transcripts : (openings : List Opening) (settings : Settings) (doings : List Doing) (number : ℕ) →
+    let w = new_world openings settings in
+    IsNonced number (peer_at ((after_all w doings).places number)) (session_bytes number w doings) (session_lines number w doings)
+nonced_transcripts openings settings doings number =
     let w : World = new_world openings settings in
-    transcript_of number ((after_all w events).places number) (session_bytes number w events) (session_lines number w events)
-    (follow_all w events number [] [] (refl, refl, refl, refl))
+    transcript_of number ((after_all w doings).places number) (session_bytes number w doings) (session_lines number w doings)
+    (follow_all w doings number [] [] (refl, refl, refl, refl))
+
+pub sessions_are_transcripts : DoingsAreTranscripts
+sessions_are_transcripts openings settings doings number = (nonced_transcripts openings settings doings number).transcript

@@ -1,5 +1,5 @@
 -- What a session is given is what it asked about, and what a turn leads to.
-use Rattle.std.proofs.Common.{◌≡◌, refl, ap, sym, ◌∙◌, subst, ℕ, List, [], ◌∷◌, ◌++◌, Option, Some, IfSome, Result, Ok, Err, OnOk, append_assoc}
+use Rattle.std.proofs.Common.{◌≡◌, refl, ap, sym, ◌∙◌, subst, ℕ, List, [], ◌∷◌, ◌++◌, Option, Some, IfSome, Result, Ok, Err, OnOk, append_assoc, append-nil}
 use Rattle.factor_chain.specs.CheckedOf.{CheckedOf}
 use Rattle.factor_chain.specs.declared.credentials.Look.{Look}
 use Rattle.factor_chain.specs.declared.evidence_list.Evidence.{Evidence}
@@ -13,9 +13,15 @@ use Rattle.session_talk.specs.declared.inputs.Input.{Input}
 use Rattle.session_talk.specs.declared.inputs.Input.TheVariants as input
 use Rattle.session_world.specs.declared.calls.Calls.{Calls}
 use Rattle.session_world.specs.declared.calls.Peer.{Peer}
-use Rattle.session_world.specs.Going.{Common, Gone, Line, going}
-use Rattle.session_world.specs.Leading.{IsGivenBack, LeadsTo, after_lines, sent_because}
-use Rattle.session_world.specs.Printing.{line_text, lines_text}
+use Rattle.session_world.specs.Going.{Gone, going}
+use Rattle.world_table.specs.Table.{Common}
+use Rattle.world_table.specs.Printing.{Line, Sends, Adds, Stale, Ends, Idle}
+use Rattle.session_world.specs.Leading.{IsGivenBack, LeadsTo, after_lines, sent_because, with_lines}
+use Rattle.session_world.specs.Lines.{sends_in}
+use Rattle.session_world.specs.declared.output.Output.{Output}
+use Rattle.client_wire.specs.Packing.{packet_text, packets_text}
+use Rattle.session_talk.specs.Owed.{Sent}
+use Rattle.world_table.specs.Printing.{line_text, lines_text, send_lines}
 use Rattle.session_world.proofs.Turning.{going_said}
 
 fitting : (a : Ask) (given : Input) → ¬ IsGivenBack given → IsFitting a given
@@ -45,20 +51,65 @@ lines_joined session (line ∷ before) after =
     ap (λ (text : List ℕ). line_text session line ++ text) (lines_joined session before after)
     ∙ sym (append_assoc (line_text session line) (lines_text session before) (lines_text session after))
 
--- lines that were printed no longer come
-pub printed_first : (session : ℕ) (here now_here : List ℕ) (before : List Line) (coming : Gone) → now_here ≡ here ++ lines_text session before →
+pub sends_joined : (before after : List Line) → sends_in (before ++ after) ≡ sends_in before ++ sends_in after
+sends_joined [] after = refl
+sends_joined (Sends sent ∷ before) after = ap (λ (more : List Sent). sent ∷ more) (sends_joined before after)
+sends_joined (Adds number entry ∷ before) after = sends_joined before after
+sends_joined (Stale ∷ before) after = sends_joined before after
+sends_joined (Ends how ∷ before) after = sends_joined before after
+sends_joined (Idle ∷ before) after = sends_joined before after
+
+packets_joined : (before after : List Sent) → packets_text (before ++ after) ≡ packets_text before ++ packets_text after
+packets_joined [] after = refl
+packets_joined (sent ∷ before) after =
+    ap (λ (text : List ℕ). packet_text sent.first sent.payload ++ text) (packets_joined before after)
+    ∙ sym (append_assoc (packet_text sent.first sent.payload) (packets_text before) (packets_text after))
+
+-- lines one after another
+pub with_both : (session : ℕ) (before after : List Line) (o : Output) → with_lines session after (with_lines session before o) ≡ with_lines session (before ++ after) o
+with_both session before after o = ap (λ (text : List ℕ). record { lines = text; sent = (o.sent ++ packets_text (sends_in before)) ++ packets_text (sends_in after) })
+    (append_assoc o.lines (lines_text session before) (lines_text session after)
+    ∙ ap (λ (text : List ℕ). o.lines ++ text) (sym (lines_joined session before after)))
+    ∙ ap (λ (bytes : List ℕ). record { lines = o.lines ++ lines_text session (before ++ after); sent = bytes })
+    (append_assoc o.sent (packets_text (sends_in before)) (packets_text (sends_in after))
+    ∙ ap (λ (bytes : List ℕ). o.sent ++ bytes) (sym (packets_joined (sends_in before) (sends_in after)) ∙ ap packets_text (sym (sends_joined before after))))
+
+pub with_none : (session : ℕ) (o : Output) → with_lines session [] o ≡ o
+with_none session o = ap (λ (text : List ℕ). record { lines = text; sent = o.sent ++ [] }) (append-nil o.lines)
+    ∙ ap (λ (bytes : List ℕ). record { lines = o.lines; sent = bytes }) (append-nil o.sent)
+
+-- a line by which nothing is sent
+pub one_line : (session : ℕ) (line : Line) (o : Output) → sends_in (line ∷ []) ≡ [] → record o { lines = o.lines ++ line_text session line } ≡ with_lines session (line ∷ []) o
+one_line session line o quiet =
+    ap (λ (text : List ℕ). record { lines = o.lines ++ text; sent = o.sent }) (sym (append-nil (line_text session line)))
+    ∙ ap (λ (bytes : List ℕ). record { lines = o.lines ++ lines_text session (line ∷ []); sent = bytes })
+    (sym (append-nil o.sent) ∙ ap (λ (sent : List Sent). o.sent ++ packets_text sent) (sym quiet))
+
+-- a text was printed
+pub printed_so : (o : Output) (lines text : List ℕ) → lines ≡ o.lines ++ text → record o { lines = lines } ≡ record o { lines = o.lines ++ text }
+printed_so o lines text is = ap (λ (t : List ℕ). record o { lines = t }) is
+
+-- the payloads in the lines of payloads
+pub sent_in : (sent : List Sent) → sends_in (send_lines sent) ≡ sent
+sent_in [] = refl
+sent_in (first ∷ sent) = ap (λ (more : List Sent). first ∷ more) (sent_in sent)
+
+pub all_sent : (session : ℕ) (sent : List Sent) (o : Output) →
+    record { lines = o.lines ++ lines_text session (send_lines sent); sent = o.sent ++ packets_text sent } ≡ with_lines session (send_lines sent) o
+all_sent session sent o = ap (λ (more : List Sent). record { lines = o.lines ++ lines_text session (send_lines sent); sent = o.sent ++ packets_text more }) (sym (sent_in sent))
+
+-- lines that were put out no longer come
+pub printed_first : (session : ℕ) (here now_here : Output) (before : List Line) (coming : Gone) → now_here ≡ with_lines session before here →
     LeadsTo session now_here coming here (after_lines before coming)
 printed_first session here now_here before coming printed = record {
-  printed = ap (λ (text : List ℕ). text ++ lines_text session coming.lines) printed
-      ∙ (append_assoc here (lines_text session before) (lines_text session coming.lines)
-      ∙ ap (λ (text : List ℕ). here ++ text) (sym (lines_joined session before coming.lines)));
+  printed = ap (with_lines session coming.lines) printed ∙ with_both session before coming.lines here;
   common = refl;
   next = refl;
   at = refl;
   unread = refl;
 }
 
-pub leads_on : (session : ℕ) (a b c : List ℕ) (x y z : Gone) → LeadsTo session a x b y → LeadsTo session b y c z → LeadsTo session a x c z
+pub leads_on : (session : ℕ) (a b c : Output) (x y z : Gone) → LeadsTo session a x b y → LeadsTo session b y c z → LeadsTo session a x c z
 leads_on session a b c x y z first then_ = record {
   printed = first.printed ∙ then_.printed;
   common = first.common ∙ then_.common;
@@ -69,8 +120,8 @@ leads_on session a b c x y z first then_ = record {
 
 -- an input was given, and what is sent because of it was printed
 pub acted : (session : ℕ) (peer : Peer) (calls : Calls) (c : Common) (next : ℕ) (t : Talk) (given : Input) (stream : Stream)
-    (here now_here : List ℕ) (next_after : ℕ) (after : Talk) →
-    now_here ≡ here ++ lines_text session (sent_because next t given) →
+    (here now_here : Output) (next_after : ℕ) (after : Talk) →
+    now_here ≡ with_lines session (sent_because next t given) here →
     after ≡ rest (heard t given) → next_after ≡ id_behind_all (first_id next t given) (said (heard t given)) →
     LeadsTo session now_here (going peer calls c next_after after stream) here (going peer calls c (first_id next t given) (heard t given) stream)
 acted session peer calls c next t given stream here now_here next_after after printed after_is next_is =

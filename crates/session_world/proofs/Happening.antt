@@ -1,5 +1,5 @@
--- What an event does, by what stands at its session's number.
-use Rattle.std.proofs.Common.{◌≡◌, refl, ap, sym, ◌∙◌, subst, ℕ, ◌==◌, Bool, false, true, cond, List, [], ◌++◌, Option, Some, None, Result, OnOk}
+-- What an doing does, by what stands at its session's number.
+use Rattle.std.proofs.Common.{◌≡◌, refl, ap, sym, ◌∙◌, subst, ℕ, ◌==◌, Bool, false, true, cond, List, [], Option, Some, None, Result, OnOk}
 use Rattle.std.specs.BTreeMap.{BTreeMap, get}
 use Rattle.std.specs.Ordering.{nat_cmp}
 use Rattle.session_world.proofs.Taking.{same_number}
@@ -10,12 +10,11 @@ use Rattle.session_world.specs.declared.calls.Calls.{Calls}
 use Rattle.session_world.specs.declared.calls.Calls.TheVariants.{Nothing}
 use Rattle.session_world.specs.declared.calls.Peer.{Peer}
 use Rattle.session_world.specs.declared.held.Held.{Held}
-use Rattle.session_world.specs.Going.{Common, going}
-use Rattle.script_text.specs.declared.event.Event.{Event}
-use Rattle.session_world.specs.Standing.{Mirrors}
-use Rattle.session_world.specs.declared.world.World.{World as Kept}
-use Rattle.session_world.specs.Sessions.{AreBeside, Follows, ShowsBeside, world_of}
-use Rattle.session_world.specs.Worlds.{AreAt, GoesOn, Happened, IsAt, IsIdle, Place, Shows, World, calling, going_on, happens, idle, is_there, leaving, more_at, moved, sending, waits, with_place}
+use Rattle.session_world.specs.Going.{going}
+use Rattle.world_table.specs.Table.{Common}
+use Rattle.session_world.specs.Sessions.{AreBeside, Follows, ShowsBeside, put_by}
+use Rattle.session_world.specs.declared.output.Output.{Output}
+use Rattle.session_world.specs.Worlds.{AreAt, GoesOn, Happened, IsAt, IsIdle, Place, Shows, World, calling, going_on, idle, is_there, leaving, more_at, moved, sending, waits, with_place}
 
 -- ## Places
 
@@ -98,17 +97,11 @@ pub is_there_there : (number : ℕ) (place : Place) (held : Held) (b c : Bool) �
 is_there_there number place held b c at e is =
     sym (ap (λ (t : Talk). is_there t held.seat.peer) at.talk_is ∙ ap (λ (p : Peer). is_there place.at p) at.peer_is) ∙ (sym e ∙ is)
 
--- what came of an event is what another says
+-- what came of an doing is what another says
 pub follows_so : (h other : Happened) (r : Result (Unit {0}) Memory) (common : Common) (sessions : BTreeMap ℕ Held) → other ≡ h →
     OnOk r (Follows h common sessions) → OnOk r (Follows other common sessions)
 follows_so h other r common sessions e = subst (λ (x : Happened). OnOk r (Follows x common sessions)) (sym e)
 
-pub printed_so : (h other : Happened) (r : Result (Unit {0}) Memory) (before now : List ℕ) → other ≡ h →
-    OnOk r (now ≡ before ++ h.text) → OnOk r (now ≡ before ++ other.text)
-printed_so h other r before now e = subst (λ (x : Happened). OnOk r (now ≡ before ++ x.text)) (sym e)
-
--- ## The whole
-
--- what happens in a world that is kept is what happens in the world that it is
-pub same_event : (kept : Kept) (w : World) (event : Event) → Mirrors kept w → happens (world_of kept.state.table w.places) event ≡ happens w event
-same_event kept w event m = ap (λ (common : Common). happens (world_of common w.places) event) m.common
+pub printed_so : (h other : Happened) (r : Result (Unit {0}) Memory) (before now : Output) → other ≡ h →
+    OnOk r (now ≡ put_by h before) → OnOk r (now ≡ put_by other before)
+printed_so h other r before now e = subst (λ (x : Happened). OnOk r (now ≡ put_by x before)) (sym e)

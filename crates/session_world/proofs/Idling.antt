@@ -1,11 +1,9 @@
--- An event that prints that it is idle changes nothing.
-use Rattle.std.proofs.Common.{◌≡◌, refl, ap, ℕ, ◌+◌, Bool, true, false, if◌then◌else◌, List, [], ◌∷◌, arith}
+-- A doing that prints that it is idle changes nothing.
+use Rattle.std.proofs.Common.{◌≡◌, refl, subst, ℕ, ◌+◌, Bool, true, false, if◌then◌else◌, List, [], ◌∷◌}
 use Rattle.packet_frame.specs.Front.{Front, Whole, Part, Fault}
 use Rattle.packet_frame.specs.Packets.{id_after}
 use Rattle.packet_frame.specs.declared.packets.FrameFault.{FrameFault}
 use Rattle.packet_frame.specs.declared.packets.FrameFault.TheVariants.{TooLarge, OutOfOrder, Memory as NoMemory}
-use Rattle.account_history.specs.declared.entries.Entry.TheVariants.{Observed, Attempted}
-use Rattle.script_text.specs.declared.event.Event.{Event}
 use Rattle.session_talk.specs.Talk.{Talk, Says, Hears, Draws, Looks, Checks, Settles, SettlesLocked, Over}
 use Rattle.session_talk.specs.Turns.{faulted, wanted}
 use Rattle.session_talk.specs.Wired.{Stream, behind_of, front_of}
@@ -13,12 +11,13 @@ use Rattle.session_world.specs.declared.calls.Calls.{Calls}
 use Rattle.session_world.specs.declared.calls.Calls.TheVariants.{Nothing, One, All}
 use Rattle.session_world.specs.declared.calls.Peer.{Peer}
 use Rattle.session_world.specs.declared.calls.Peer.TheVariants.{Open, Closed, Failed}
-use Rattle.session_world.specs.Drawing.{drawn_nonce}
-use Rattle.session_world.specs.Going.{Adds, Common, Ends, Gone, Idle, Line, Sends, Stale, by_front, closing, going, if_allowed, is_stale, unread_by, with_draw}
-use Rattle.session_world.specs.Printing.{line_text, lines_text, look_line, attempt_line}
-use Rattle.session_world.specs.Transcripts.{IdleChangesNothing}
-use Rattle.session_world.specs.Worlds.{GoesOn, IsIdle, Move, Sets, World, move, moved}
-use Rattle.session_world.proofs.Moving.{of_event}
+use Rattle.world_table.specs.Drawing.{drawn_nonce}
+use Rattle.session_world.specs.Going.{Gone, by_front, closing, going, if_allowed, unread_by}
+use Rattle.world_table.specs.Table.{Common, is_stale, with_draw}
+use Rattle.world_table.specs.Printing.{Adds, Ends, Idle, Line, Sends, Stale}
+use Rattle.session_world.specs.Transcripts.{IdleDoingsChangeNothing}
+use Rattle.session_world.specs.Worlds.{Doing, GoesOn, IsIdle, Move, Sets, World, move, moved}
+use Rattle.session_world.proofs.Moving.{of_doing}
 
 -- the first line isn't that nothing was to be done
 abbrev pub AreBusy : List Line → Type 0
@@ -50,10 +49,10 @@ pub if_is : (P : Gone → Type 0) (test : Bool) (done otherwise : Gone) → P do
 if_is P true done otherwise p q = p
 if_is P false done otherwise p q = q
 
-abbrev IsBusy : Gone → Type 0
+abbrev pub IsBusy : Gone → Type 0
 IsBusy g = AreBusy g.lines
 
-going_busy : (peer : Peer) (calls : Calls) (c : Common) (next : ℕ) (t : Talk) (stream : Stream) → IsBusy (going peer calls c next t stream)
+pub going_busy : (peer : Peer) (calls : Calls) (c : Common) (next : ℕ) (t : Talk) (stream : Stream) → IsBusy (going peer calls c next t stream)
 unfolding going
 going_busy peer calls c next (Says payload t) stream = tt
 going_busy peer calls c next (Hears anew k) stream =
@@ -73,39 +72,26 @@ going_busy peer calls c next (Settles checked flags stale k) stream =
 going_busy peer calls c next (SettlesLocked user evidences flags k) stream = if_allowed_is IsBusy calls _ _ tt tt
 going_busy peer calls c next (Over how) stream = tt
 
-abbrev IsBusyMove : Move → Type 0
+abbrev pub IsBusyMove : Move → Type 0
 IsBusyMove (Sets reading) = Unit {0}
 IsBusyMove (GoesOn number peer bytes g) = IsBusy g
 IsBusyMove (IsIdle number) = Unit {0}
 
-move_busy : (w : World) (event : Event) → IsBusyMove (move w event)
-move_busy w event = of_event w IsBusyMove (record {
+pub move_busy : (w : World) (doing : Doing) → IsBusyMove (move w doing)
+move_busy w doing = of_doing w IsBusyMove (record {
   sets = λ reading. tt;
   idles = λ number. tt;
   opens = λ number e. going_busy _ _ _ _ _ _;
   goes = λ number place peer calls bytes e ready. going_busy _ _ _ _ _ _;
-}) event
+}) doing
 
--- no other line begins as an idle one, with the byte 105
-abbrev first_byte : List ℕ → ℕ
-first_byte [] = 0
-first_byte (b ∷ bytes) = b
+not_idle : (lines : List Line) → AreBusy lines → lines ≡ Idle ∷ [] → ⊥
+not_idle lines busy e = subst AreBusy e busy
 
-not_idle : (session number : ℕ) (lines : List Line) → AreBusy lines → lines_text session lines ≡ lines_text number (Idle ∷ []) → ⊥
-unfolding line_text look_line attempt_line
-not_idle session number [] busy e = let same : 0 ≡ 105 = ap first_byte e in absurd (omega (arith, same))
-not_idle session number (Sends sent ∷ lines) busy e = let same : 115 ≡ 105 = ap first_byte e in absurd (omega (arith, same))
-not_idle session number (Adds k (Observed who look) ∷ lines) busy e = let same : 101 ≡ 105 = ap first_byte e in absurd (omega (arith, same))
-not_idle session number (Adds k (Attempted attempt) ∷ lines) busy e = let same : 101 ≡ 105 = ap first_byte e in absurd (omega (arith, same))
-not_idle session number (Stale ∷ lines) busy e = let same : 115 ≡ 105 = ap first_byte e in absurd (omega (arith, same))
-not_idle session number (Ends how ∷ lines) busy e = let same : 101 ≡ 105 = ap first_byte e in absurd (omega (arith, same))
-not_idle session number (Idle ∷ lines) busy e = absurd busy
+idle_move : (w : World) (m : Move) → IsBusyMove m → (moved w m).lines ≡ Idle ∷ [] → (moved w m).world ≡ w
+idle_move w (Sets reading) busy e = absurd (not_idle [] tt e)
+idle_move w (GoesOn session peer bytes g) busy e = absurd (not_idle g.lines busy e)
+idle_move w (IsIdle session) busy e = refl
 
-idle_move : (w : World) (m : Move) (number : ℕ) → IsBusyMove m → (moved w m).text ≡ lines_text number (Idle ∷ []) → (moved w m).world ≡ w
-idle_move w (Sets reading) number busy e = absurd (not_idle 0 number [] tt e)
-idle_move w (GoesOn session peer bytes g) number busy e = absurd (not_idle session number g.lines busy e)
-idle_move w (IsIdle session) number busy e = refl
-
-pub idle_changes_nothing : IdleChangesNothing
-idle_changes_nothing w event number e =
-    idle_move w (move w event) number (move_busy w event) e
+pub idle_changes_nothing : IdleDoingsChangeNothing
+idle_changes_nothing w doing e = idle_move w (move w doing) (move_busy w doing) e

@@ -1,5 +1,5 @@
 -- A session that is kept goes on.
-use Rattle.std.proofs.Common.{◌≡◌, refl, ap, sym, ◌∙◌, subst, ℕ, Bool, false, true, List, ◌++◌, append-nil}
+use Rattle.std.proofs.Common.{◌≡◌, refl, ap, sym, ◌∙◌, subst, ℕ, Bool, false, true}
 use Rattle.session_engine.specs.Standing.{next_of, talk_of_session}
 use Rattle.session_talk.specs.Talk.{Talk, Says, Hears, Draws, Looks, Checks, Settles, SettlesLocked, Over}
 use Rattle.session_talk.specs.declared.actions.Ask.{Ask}
@@ -10,22 +10,24 @@ use Rattle.session_world.specs.declared.calls.Calls.TheVariants.{Nothing}
 use Rattle.session_world.specs.declared.calls.Peer.{Peer}
 use Rattle.session_world.specs.declared.calls.Peer.TheVariants as peer
 use Rattle.session_world.specs.declared.turns.Seat.{Seat}
-use Rattle.session_world.specs.Going.{Common, Gone, going}
-use Rattle.session_world.specs.Leading.{Leads, LeadsTo, Rests}
+use Rattle.session_world.specs.Going.{Gone, going}
+use Rattle.world_table.specs.Table.{Common}
+use Rattle.session_world.specs.Leading.{Leads, LeadsTo, Rests, with_lines}
+use Rattle.session_world.specs.declared.output.Output.{Output}
+use Rattle.session_world.proofs.Giving.{with_none}
 use Rattle.session_world.specs.Seats.{SameSeat}
-use Rattle.session_world.specs.Printing.{lines_text}
 use Rattle.session_world.specs.Begun.{is_begun}
-use Rattle.session_world.specs.Worlds.{Place, is_call, is_open_by, is_there, no_bytes, place_of, waits}
+use Rattle.session_world.specs.Worlds.{Place, is_call, is_end, is_open_by, is_over, is_there, no_bytes, place_of, waits}
 
 -- what a session's going on leads to, from its place
-pub record WentOn (number : ℕ) (place : Place) (calls : Calls) (before : Common) (there : List ℕ) (new : Seat) (now : Common) (here : List ℕ) : Type 0 where
+pub record WentOn (number : ℕ) (place : Place) (calls : Calls) (before : Common) (there : Output) (new : Seat) (now : Common) (here : Output) : Type 0 where
   pub common : now ≡ (going place.peer calls before place.next place.at place.unread).common
   pub next : next_of new.session ≡ (going place.peer calls before place.next place.at place.unread).next
   pub at : talk_of_session new.session ≡ (going place.peer calls before place.next place.at place.unread).at
   pub unread : new.inbox ≡ (going place.peer calls before place.next place.at place.unread).unread
-  pub printed : here ≡ there ++ lines_text number (going place.peer calls before place.next place.at place.unread).lines
+  pub printed : here ≡ with_lines number (going place.peer calls before place.next place.at place.unread).lines there
 
-pub went_on : (number : ℕ) (place : Place) (calls : Calls) (before now : Common) (there here : List ℕ) (old new : Seat) →
+pub went_on : (number : ℕ) (place : Place) (calls : Calls) (before now : Common) (there here : Output) (old new : Seat) →
     old.number ≡ number → old.peer ≡ place.peer → next_of old.session ≡ place.next → talk_of_session old.session ≡ place.at → old.inbox ≡ place.unread →
     new.number ≡ old.number → new.peer ≡ old.peer →
     Rests new.number new.peer here now (next_of new.session) (talk_of_session new.session) new.inbox
@@ -37,8 +39,8 @@ went_on number place calls before now there here old new number_is peer_is next_
       next = rests.next ∙ ap (λ (g : Gone). g.next) same;
       at = rests.at ∙ ap (λ (g : Gone). g.at) same;
       unread = rests.unread ∙ ap (λ (g : Gone). g.unread) same;
-      printed = sym (append-nil here) ∙ (rests.printed ∙ (ap (λ (n : ℕ). there ++ lines_text n began.lines) (same_number ∙ number_is)
-          ∙ ap (λ (g : Gone). there ++ lines_text number g.lines) same));
+      printed = sym (with_none new.number here) ∙ (rests.printed ∙ (ap (λ (n : ℕ). with_lines n began.lines there) (same_number ∙ number_is)
+          ∙ ap (λ (g : Gone). with_lines number g.lines there) same));
     }
   where
     began : Gone
@@ -52,7 +54,7 @@ went_on number place calls before now there here old new number_is peer_is next_
         ∙ ap (λ (s : Stream). going place.peer calls before place.next place.at s) unread_is))
 
 -- a session that was begun goes on as a new one does
-pub begun_so : (number : ℕ) (t : Talk) (before now : Common) (there here : List ℕ) (old new : Seat) →
+pub begun_so : (number : ℕ) (t : Talk) (before now : Common) (there here : Output) (old new : Seat) →
     old.number ≡ number → old.peer ≡ peer.Open → next_of old.session ≡ 0 → talk_of_session old.session ≡ t → old.inbox ≡ no_bytes → SameSeat old new →
     Leads new.number new.peer here Nothing now (next_of new.session) (talk_of_session new.session) new.inbox
     there Nothing before (next_of old.session) (talk_of_session old.session) old.inbox →
@@ -68,7 +70,7 @@ begun_so number t before now there here old new number_is peer_is next_is talk_i
     at_peer : Peer → Gone
     at_peer p = going p Nothing now (next_of new.session) (talk_of_session new.session) new.inbox
 
-pub place_same : (session : ℕ) (a b : List ℕ) (x y : Gone) (p : Peer) → LeadsTo session a x b y → place_of p x ≡ place_of p y
+pub place_same : (session : ℕ) (a b : Output) (x y : Gone) (p : Peer) → LeadsTo session a x b y → place_of p x ≡ place_of p y
 place_same session a b x y p l =
     ap (λ (n : ℕ). record { next = n; at = x.at; unread = x.unread; peer = p }) l.next
     ∙ (ap (λ (t : Talk). record { next = y.next; at = t; unread = x.unread; peer = p }) l.at
@@ -120,3 +122,14 @@ there_by next _ peer.Failed begun = refl
 
 pub peer_asked : (next : ℕ) (t : Talk) (asks : Ask) (p : Peer) (b : Bool) → asks ≡ asked next t → IsBegun t → b ≡ is_open_by asks p → b ≡ is_there t p
 peer_asked next t asks p b is begun e = e ∙ (ap (λ (a : Ask). is_open_by a p) is ∙ there_by next t p begun)
+
+-- a session has ended exactly where it asks for nothing more
+over_by : (next : ℕ) (t : Talk) → IsBegun t → is_end (asked next t) ≡ is_over t
+unfolding question wanted_by
+over_by next (Looks false who k) begun = refl
+over_by next (Looks true who k) begun = refl
+over_by next (Says payload t) begun = absurd begun
+over_by next _ begun = refl
+
+pub over_asked : (next : ℕ) (t : Talk) (asks : Ask) (b : Bool) → asks ≡ asked next t → IsBegun t → b ≡ is_end asks → b ≡ is_over t
+over_asked next t asks b is begun e = e ∙ (ap is_end is ∙ over_by next t begun)

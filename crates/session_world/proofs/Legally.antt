@@ -1,4 +1,4 @@
--- After any events the history is legal, and its entries are those that are printed.
+-- After any doings the history is legal, and its entries are those that are printed.
 use Rattle.std.proofs.Common.{◌≡◌, refl, ap, sym, ◌∙◌, subst, ℕ, ◌+◌, List, [], ◌∷◌, ◌++◌, length, length-append, append-nil, append_assoc, arith}
 use Rattle.packet_frame.specs.Front.{Front, Whole, Part, Fault}
 use Rattle.packet_frame.specs.Packets.{id_after}
@@ -10,19 +10,21 @@ use Rattle.account_history.specs.Legal.{IsAnswered, IsLegal}
 use Rattle.account_history.specs.declared.entries.Entry.{Entry}
 use Rattle.account_history.specs.declared.entries.Entry.TheVariants.{Observed}
 use Rattle.account_history.specs.declared.entries.Log.{Log}
-use Rattle.script_text.specs.declared.event.Event.{Event}
 use Rattle.session_talk.specs.Talk.{Talk, Says, Hears, Draws, Looks, Checks, Settles, SettlesLocked, Over}
 use Rattle.session_talk.specs.Turns.{faulted, id_behind, wanted}
 use Rattle.session_talk.specs.Wired.{Stream, behind_of, front_of}
 use Rattle.session_world.specs.declared.calls.Calls.{Calls}
 use Rattle.session_world.specs.declared.calls.Peer.{Peer}
 use Rattle.session_world.specs.declared.calls.Peer.TheVariants.{Open, Closed, Failed}
-use Rattle.session_world.specs.Drawing.{drawn_nonce}
-use Rattle.session_world.specs.Going.{Adds, Common, Ends, Gone, Idle, Line, Sends, Stale, attempted, by_front, closing, going, is_stale, replied, seen, spent, unread_by, with_draw, with_entry}
-use Rattle.session_world.specs.Transcripts.{HistoriesAreLegal, Numbered, all_lines, entries_in, lines_in, numbered, numbered_in}
-use Rattle.session_world.specs.Worlds.{Move, World, after_all, happens, move, moved, new_world}
+use Rattle.world_table.specs.Drawing.{drawn_nonce}
+use Rattle.session_world.specs.Going.{Gone, by_front, closing, going, spent, unread_by}
+use Rattle.world_table.specs.Table.{Common, attempted, is_stale, replied, seen, with_draw, with_entry}
+use Rattle.world_table.specs.Printing.{Adds, Ends, Idle, Line, Sends, Stale}
+use Rattle.session_world.specs.Lines.{Numbered, entries_in, numbered_in}
+use Rattle.session_world.specs.Transcripts.{DoingsAreLegal, all_lines, lines_in, numbered}
+use Rattle.session_world.specs.Worlds.{Doing, Move, World, after_all, does, move, moved, new_world}
 use Rattle.session_world.proofs.Idling.{if_allowed_is, if_is}
-use Rattle.session_world.proofs.Moving.{of_event}
+use Rattle.session_world.proofs.Moving.{of_doing}
 
 -- a log with the entries of these lines, by their numbers, each answered by what is before it
 pub record Extends (before : Log) (lines : List Line) (after : Log) : Type 0 where
@@ -107,7 +109,7 @@ going_writes peer calls c next (SettlesLocked user evidences flags k) stream =
     (unchanged c.log [] refl refl)
 going_writes peer calls c next (Over how) stream = unchanged c.log _ refl refl
 
--- ## Over events
+-- ## Over doings
 
 pub entries_append : (lines more : List Line) → entries_in (lines ++ more) ≡ entries_in lines ++ entries_in more
 entries_append [] more = refl
@@ -162,25 +164,25 @@ both before lines between more after x y = record {
 abbrev MoveWrites : World → Move → Type 0
 MoveWrites w m = Extends w.common.log (lines_in m) (moved w m).world.common.log
 
-event_writes : (w : World) (event : Event) → Extends w.common.log (lines_in (move w event)) (happens w event).world.common.log
-event_writes w event =
-    of_event w (MoveWrites w) (record {
+doing_writes : (w : World) (doing : Doing) → Extends w.common.log (lines_in (move w doing)) (does w doing).world.common.log
+doing_writes w doing =
+    of_doing w (MoveWrites w) (record {
       sets = λ reading. unchanged w.common.log [] refl refl;
       idles = λ number. unchanged w.common.log (Idle ∷ []) refl refl;
       opens = λ number e. going_writes _ _ w.common _ _ _;
       goes = λ number place peer calls bytes e ready. going_writes peer calls w.common place.next place.at _;
-    }) event
+    }) doing
 
-events_write : (w : World) (events : List Event) → Extends w.common.log (all_lines w events) (after_all w events).common.log
-events_write w [] = unchanged w.common.log [] refl refl
-events_write w (first ∷ events) =
-    both w.common.log (lines_in (move w first)) (happens w first).world.common.log (all_lines (happens w first).world events) _
-    (event_writes w first) (events_write (happens w first).world events)
+doings_write : (w : World) (doings : List Doing) → Extends w.common.log (all_lines w doings) (after_all w doings).common.log
+doings_write w [] = unchanged w.common.log [] refl refl
+doings_write w (first ∷ doings) =
+    both w.common.log (lines_in (move w first)) (does w first).world.common.log (all_lines (does w first).world doings) _
+    (doing_writes w first) (doings_write (does w first).world doings)
 
-pub histories_are_legal : HistoriesAreLegal
-histories_are_legal openings settings events =
+pub histories_are_legal : DoingsAreLegal
+histories_are_legal openings settings doings =
     let w : World = new_world openings settings in
-    let x : Extends w.common.log (all_lines w events) (after_all w events).common.log = events_write w events in
+    let x : Extends w.common.log (all_lines w doings) (after_all w doings).common.log = doings_write w doings in
     record {
       starts = x.starts;
       printed = x.numbers ∙ ap (λ (es : List Entry). numbered 1 es) (sym x.entries);

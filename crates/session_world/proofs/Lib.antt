@@ -1,4 +1,3 @@
-mod Fronting
 mod Turning
 mod Giving
 mod Turned
@@ -13,3 +12,22 @@ mod Legally
 mod Entering
 mod Transcribed
 mod Following
+mod Staging
+mod Turnwise
+mod Doing
+mod Tasking
+mod Unchanged
+mod Called
+mod Nearing
+mod Resting
+mod Fewer
+mod Wanted
+mod Reaching
+mod Peering
+mod Pairing
+mod Accompanied
+mod Meetings
+mod Counting
+mod Worded
+mod Alike
+mod Ended

@@ -1,19 +1,17 @@
--- What events come to.
+-- What doings come to, each by its kind.
 use Rattle.std.proofs.Common.{◌≡◌, refl, ap, subst, ℕ, Bool, true, false, if◌then◌else◌, List, [], append-nil, Option, Some, None}
-use Rattle.script_text.specs.declared.event.Event.{Event}
-use Rattle.script_text.specs.declared.event.Event.TheVariants as event
 use Rattle.session_talk.specs.Laws.{with_more}
 use Rattle.session_talk.specs.Logins.{session}
 use Rattle.session_talk.specs.Talk.{Talk, Looks, Settles, SettlesLocked, Over}
 use Rattle.session_talk.specs.Transcript.{ended}
 use Rattle.session_talk.specs.Wired.{Stream}
 use Rattle.session_world.specs.declared.calls.Calls.{Calls}
-use Rattle.session_world.specs.declared.calls.Calls.TheVariants.{Nothing, One, All}
+use Rattle.session_world.specs.declared.calls.Calls.TheVariants.{Nothing}
 use Rattle.session_world.specs.declared.calls.Peer.{Peer}
 use Rattle.session_world.specs.declared.calls.Peer.TheVariants.{Open, Closed, Failed}
 use Rattle.session_world.specs.Going.{Gone, going}
 use Rattle.session_world.specs.Transcripts.{as_told}
-use Rattle.session_world.specs.Worlds.{GoesOn, IsIdle, Move, Place, Sets, World, calling, is_there, leaving, move, no_bytes, opening, sending, waits}
+use Rattle.session_world.specs.Worlds.{Doing, GoesOn, IsIdle, Move, Place, Sets, ToCall, ToIdle, ToLeave, ToOpen, ToSend, ToSet, World, calling, is_there, leaving, move, no_bytes, opening, sending, waits}
 
 -- ## What holds of each
 
@@ -44,7 +42,7 @@ waits_there Closed _ e stream = absurd (cc)
 waits_there Failed _ e stream = absurd (cc)
 waits_there Open _ e stream = refl
 
--- what holds of an event's move, where it holds of each kind
+-- what holds of an doing's move, where it holds of each kind
 pub record Each (w : World) (P : Move → Type 0) : Type 0 where
   pub sets : (reading : ℕ) → P (Sets reading)
   pub idles : (number : ℕ) → P (IsIdle number)
@@ -85,11 +83,10 @@ module _ (w : World) (P : Move → Type 0) (each : Each w P) where
       either number peer [] _ (is_there place.at place.peer)
       (λ may. without_more number place peer Nothing e (waits_there place.peer place.at may))
 
-  pub of_event : (event : Event) → P (move w event)
-  of_event (event.Clock reading) = each.sets reading
-  of_event (event.Open number) = of_opening number (w.places number) refl
-  of_event (event.FromPeer number bytes) = of_sending number bytes (w.places number) refl
-  of_event (event.Step number) = of_calling number One (w.places number) refl
-  of_event (event.Run number) = of_calling number All (w.places number) refl
-  of_event (event.Close number) = of_leaving number Closed (w.places number) refl
-  of_event (event.Cut number) = of_leaving number Failed (w.places number) refl
+  pub of_doing : (doing : Doing) → P (move w doing)
+  of_doing (ToSet reading) = each.sets reading
+  of_doing (ToOpen number) = of_opening number (w.places number) refl
+  of_doing (ToSend number bytes) = of_sending number bytes (w.places number) refl
+  of_doing (ToCall number calls) = of_calling number calls (w.places number) refl
+  of_doing (ToLeave number peer) = of_leaving number peer (w.places number) refl
+  of_doing (ToIdle number) = each.idles number

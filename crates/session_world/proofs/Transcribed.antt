@@ -1,5 +1,5 @@
 -- A session that goes on sends and enters what is owed over its bytes and what its own side is answered.
-use Rattle.std.proofs.Common.{◌≡◌, refl, ap, sym, ◌∙◌, ℕ, ◌+◌, ◌⊎◌, inl, inr, Bool, List, [], ◌∷◌, Option, Some, None, option_to_list}
+use Rattle.std.proofs.Common.{◌≡◌, refl, ap, sym, ◌∙◌, ℕ, ◌+◌, ◌⊎◌, inl, inr, Bool, List, [], ◌∷◌, length, Option, Some, None, option_to_list}
 use Rattle.packet_frame.specs.Front.{Front, Whole, Part, Fault}
 use Rattle.packet_frame.specs.Packets.{id_after}
 use Rattle.packet_frame.specs.declared.packets.FrameFault.{FrameFault}
@@ -18,12 +18,15 @@ use Rattle.session_talk.specs.Transcript.{Enters, Reading, after_packet, by_pack
 use Rattle.session_talk.specs.Turns.{faulted, id_behind, wanted}
 use Rattle.session_talk.specs.Wired as wiring
 use Rattle.session_talk.specs.Wired.{Stream, Wired, after_sent, behind_of, front_of, said_from, wired}
+use Rattle.both_ends.specs.Meeting.{AreNonces}
 use Rattle.session_world.specs.declared.calls.Calls.{Calls}
 use Rattle.session_world.specs.declared.calls.Peer.{Peer}
 use Rattle.session_world.specs.declared.calls.Peer.TheVariants.{Open, Closed, Failed}
-use Rattle.session_world.specs.Drawing.{drawn_nonce}
-use Rattle.session_world.specs.Going.{Common, Gone, attempted, by_front, closing, going, is_stale, replied, seen, spent, stops, unread_by, with_draw, with_entry}
-use Rattle.session_world.specs.Transcripts.{as_told, ends_in, entries_in, sends_in}
+use Rattle.world_table.specs.Drawing.{drawn_nonce}
+use Rattle.session_world.specs.Going.{Gone, by_front, closing, going, spent, stops, unread_by}
+use Rattle.world_table.specs.Table.{Common, attempted, is_stale, replied, seen, with_draw, with_entry}
+use Rattle.session_world.specs.Lines.{ends_in, entries_in, sends_in}
+use Rattle.session_world.specs.Transcripts.{as_told}
 use Rattle.session_world.proofs.Idling.{if_allowed_is, if_is}
 
 -- a session stands where what is owed leaves it, and nothing is unused
@@ -40,10 +43,16 @@ IsOver t = ⊥
 -- by the packets that are read and what is owed, for all that its own side may be answered
 pub record Goes (peer : Peer) (t : Talk) (read : List Own → List Packet) (owed : List Own → Wired) (g : Gone) : Type 0 where
   pub owns : List Own
+  pub nonces : AreNonces owns
   pub entered : Enters t (read owns) owns (entries_in g.lines)
   pub sends : sends_in g.lines ≡ (owed owns).sent
   pub ends : ends_in g.lines ≡ option_to_list (ended (as_told peer) (owed owns).at (owed owns).unread)
   pub stands : IsLive (owed owns) g.next g.at g.unread ⊎ IsOver g.at
+
+-- a nonce that is drawn has 20 bytes
+nonce_long : (number : ℕ) → length (drawn_nonce number) ≡ 20
+unfolding drawn_nonce
+nonce_long number = refl
 
 -- what came of going on is owed
 abbrev pub GoesAsOwed : Peer → (next : ℕ) → Talk → Stream → Gone → Type 0
@@ -55,6 +64,7 @@ waiting : (peer : Peer) (c : Common) (next : ℕ) (t : Talk) (stream : Stream) �
     ended (as_told peer) t stream ≡ None → GoesAsOwed peer next t stream (stops c next t stream)
 waiting peer c next t stream e entered waits = record {
   owns = [];
+  nonces = tt;
   entered = entered;
   sends = ap (λ (w : Wired). w.sent) (sym e);
   ends = ap (λ (how : Option SessionEnd). option_to_list how) (sym waits)
@@ -120,19 +130,20 @@ module _ (peer : Peer) (calls : Calls) (c : Common) (next : ℕ) (anew : Bool) (
   unfolding Enters
   unread_goes Open missing = record {
     owns = [];
+    nonces = tt;
     entered = (refl, refl);
     sends = refl;
     ends = refl;
     stands = inl (record { next_is = refl; at_is = refl; unread_is = refl; unused_is = refl });
   }
-  unread_goes Closed missing = record { owns = []; entered = (refl, refl); sends = refl; ends = refl; stands = inr tt }
-  unread_goes Failed missing = record { owns = []; entered = (refl, refl); sends = refl; ends = refl; stands = inr tt }
+  unread_goes Closed missing = record { owns = []; nonces = tt; entered = (refl, refl); sends = refl; ends = refl; stands = inr tt }
+  unread_goes Failed missing = record { owns = []; nonces = tt; entered = (refl, refl); sends = refl; ends = refl; stands = inr tt }
 
   fault_goes : (fault : FrameFault) → GoesAt (Fault fault) (closing c (id_after (wanted anew next)) (faulted fault) stream)
   unfolding closing said_from Enters
-  fault_goes (TooLarge at) = record { owns = []; entered = (refl, refl); sends = refl; ends = ends_over peer _ stream; stands = inr tt }
-  fault_goes (OutOfOrder at want got) = record { owns = []; entered = (refl, refl); sends = refl; ends = ends_over peer _ stream; stands = inr tt }
-  fault_goes NoMemory = record { owns = []; entered = (refl, refl); sends = refl; ends = ends_over peer _ stream; stands = inr tt }
+  fault_goes (TooLarge at) = record { owns = []; nonces = tt; entered = (refl, refl); sends = refl; ends = ends_over peer _ stream; stands = inr tt }
+  fault_goes (OutOfOrder at want got) = record { owns = []; nonces = tt; entered = (refl, refl); sends = refl; ends = ends_over peer _ stream; stands = inr tt }
+  fault_goes NoMemory = record { owns = []; nonces = tt; entered = (refl, refl); sends = refl; ends = ends_over peer _ stream; stands = inr tt }
 
   by_shown : ((last : ℕ) (payload : List ℕ) (s : Stream) → GoesAsOwed peer (id_after last) (k payload) s (going peer calls c (id_after last) (k payload) s)) →
       (f : Front) → GoesAt f (gone_at f)
@@ -140,7 +151,7 @@ module _ (peer : Peer) (calls : Calls) (c : Common) (next : ℕ) (anew : Bool) (
   by_shown again (Whole first last payload behind) =
       let x : GoesAsOwed peer (id_after last) (k payload) (behind_of stream behind) (going peer calls c (id_after last) (k payload) (behind_of stream behind)) =
       again last payload (behind_of stream behind) in
-      record { owns = x.owns; entered = x.entered; sends = x.sends; ends = x.ends; stands = x.stands }
+      record { owns = x.owns; nonces = x.nonces; entered = x.entered; sends = x.sends; ends = x.ends; stands = x.stands }
   by_shown again (Part missing) = unread_goes peer missing
   by_shown again (Fault fault) = fault_goes fault
 
@@ -152,6 +163,7 @@ goes_as_owed peer calls c next (Says payload t) stream =
     goes_as_owed peer calls c (id_behind next payload) t stream in
     record {
       owns = x.owns;
+      nonces = x.nonces;
       entered = x.entered;
       sends = ap (λ (rest : List Sent). record { first = next; payload = payload } ∷ rest) x.sends;
       ends = x.ends;
@@ -163,32 +175,32 @@ goes_as_owed peer calls c next (Hears anew k) stream =
 goes_as_owed peer calls c next (Draws first k) stream =
     let x : GoesAsOwed peer next (k (drawn_nonce (c.drawn + 1))) stream (going peer calls (with_draw c) next (k (drawn_nonce (c.drawn + 1))) stream) =
     goes_as_owed peer calls (with_draw c) next (k (drawn_nonce (c.drawn + 1))) stream in
-    record { owns = Drew (drawn_nonce (c.drawn + 1)) ∷ x.owns; entered = x.entered; sends = x.sends; ends = x.ends; stands = x.stands }
+    record { owns = Drew (drawn_nonce (c.drawn + 1)) ∷ x.owns; nonces = (nonce_long (c.drawn + 1), x.nonces); entered = x.entered; sends = x.sends; ends = x.ends; stands = x.stands }
 goes_as_owed peer calls c next (Looks again who k) stream =
     if_allowed_is (GoesAsOwed peer next (Looks again who k) stream) calls _ _
     (let x : GoesAsOwed peer next (k (seen c who)) stream (going peer (spent calls) (with_entry c (Observed who (seen c who))) next (k (seen c who)) stream) =
     goes_as_owed peer (spent calls) (with_entry c (Observed who (seen c who))) next (k (seen c who)) stream in
-    record { owns = Saw (seen c who) ∷ x.owns; entered = (refl, x.entered); sends = x.sends; ends = x.ends; stands = x.stands })
+    record { owns = Saw (seen c who) ∷ x.owns; nonces = x.nonces; entered = (refl, x.entered); sends = x.sends; ends = x.ends; stands = x.stands })
     (waiting peer c next (Looks again who k) stream refl (refl, refl) (looks_wait peer again who k stream))
 goes_as_owed peer calls c next (Checks look evidences t) stream =
     let x : GoesAsOwed peer next t stream (going peer calls c next t stream) = goes_as_owed peer calls c next t stream in
-    record { owns = x.owns; entered = x.entered; sends = x.sends; ends = x.ends; stands = x.stands }
+    record { owns = x.owns; nonces = x.nonces; entered = x.entered; sends = x.sends; ends = x.ends; stands = x.stands }
 goes_as_owed peer calls c next (Settles checked flags stale k) stream =
     if_allowed_is (GoesAsOwed peer next (Settles checked flags stale k) stream) calls _ _
     (if_is (GoesAsOwed peer next (Settles checked flags stale k) stream) (is_stale c checked.look) _ _
     (let x : GoesAsOwed peer next stale stream (going peer (spent calls) c next stale stream) = goes_as_owed peer (spent calls) c next stale stream in
-    record { owns = Late ∷ x.owns; entered = x.entered; sends = x.sends; ends = x.ends; stands = x.stands })
+    record { owns = Late ∷ x.owns; nonces = x.nonces; entered = x.entered; sends = x.sends; ends = x.ends; stands = x.stands })
     (let reply : Reply = replied c checked.look.user checked.evidences flags in
     let d : Common = with_entry c (attempted c checked.look.user checked.evidences flags) in
     let x : GoesAsOwed peer next (k reply) stream (going peer (spent calls) d next (k reply) stream) = goes_as_owed peer (spent calls) d next (k reply) stream in
-    record { owns = Did reply ∷ x.owns; entered = (c.clock, refl, x.entered); sends = x.sends; ends = x.ends; stands = x.stands }))
+    record { owns = Did reply ∷ x.owns; nonces = x.nonces; entered = (c.clock, refl, x.entered); sends = x.sends; ends = x.ends; stands = x.stands }))
     (waiting peer c next (Settles checked flags stale k) stream refl (refl, refl) (settles_wait peer checked flags stale k stream))
 goes_as_owed peer calls c next (SettlesLocked user evidences flags k) stream =
     if_allowed_is (GoesAsOwed peer next (SettlesLocked user evidences flags k) stream) calls _ _
     (let reply : Reply = replied c user evidences flags in
     let d : Common = with_entry c (attempted c user evidences flags) in
     let x : GoesAsOwed peer next (k reply) stream (going peer (spent calls) d next (k reply) stream) = goes_as_owed peer (spent calls) d next (k reply) stream in
-    record { owns = Did reply ∷ x.owns; entered = (c.clock, refl, x.entered); sends = x.sends; ends = x.ends; stands = x.stands })
+    record { owns = Did reply ∷ x.owns; nonces = x.nonces; entered = (c.clock, refl, x.entered); sends = x.sends; ends = x.ends; stands = x.stands })
     (waiting peer c next (SettlesLocked user evidences flags k) stream refl (refl, refl) (locked_wait peer user evidences flags k stream))
 goes_as_owed peer calls c next (Over how) stream =
-    record { owns = []; entered = (refl, refl); sends = refl; ends = ends_over peer how stream; stands = inr tt }
+    record { owns = []; nonces = tt; entered = (refl, refl); sends = refl; ends = ends_over peer how stream; stands = inr tt }

@@ -1,5 +1,5 @@
 -- What each turn leads to, as the code takes it.
-use Rattle.std.proofs.Common.{◌≡◌, ◌≢◌, refl, ap, sym, ◌∙◌, subst, ℕ, ◌+◌, ◌==◌, Bool, true, false, not, List, [], ◌∷◌, ◌++◌, length, append-nil}
+use Rattle.std.proofs.Common.{◌≡◌, ◌≢◌, refl, ap, sym, ◌∙◌, subst, ℕ, ◌+◌, ◌==◌, Bool, true, false, not, List, [], ◌∷◌, ◌++◌, length}
 use Rattle.packet_frame.specs.Front.{Part}
 use Rattle.packet_frame.specs.declared.packets.FrameFault.{FrameFault}
 use Rattle.packet_frame.specs.declared.packets.Packet.{Packet}
@@ -21,16 +21,20 @@ use Rattle.session_world.specs.declared.calls.Calls.{Calls}
 use Rattle.session_world.specs.declared.calls.Calls.TheVariants.{Nothing, One, All}
 use Rattle.session_world.specs.declared.calls.Peer.{Peer}
 use Rattle.session_world.specs.declared.calls.Peer.TheVariants.{Open, Closed, Failed}
-use Rattle.session_world.specs.declared.inbox.Found.TheVariants as found
-use Rattle.session_world.specs.Drawing.{drawn_nonce}
-use Rattle.session_world.specs.Going.{Adds, Common, Ends, Gone, Line, Stale, after_line, attempted, going, is_stale, next_number, replied, seen, spent, stops, with_draw, with_entry}
-use Rattle.session_world.specs.Inbox.{Takes}
+use Rattle.client_wire.specs.declared.inbox.Found.TheVariants as found
+use Rattle.world_table.specs.Drawing.{drawn_nonce}
+use Rattle.session_world.specs.Going.{Gone, after_line, going, spent, stops}
+use Rattle.world_table.specs.Table.{Common, attempted, is_stale, next_number, replied, seen, with_draw, with_entry}
+use Rattle.world_table.specs.Printing.{Adds, Ends, Line, Stale}
+use Rattle.client_wire.specs.Inbox.{Takes}
+use Rattle.session_world.specs.Lines.{sends_in}
+use Rattle.session_world.specs.declared.output.Output.{Output}
 use Rattle.session_world.specs.Leading.{Acted, IsCall, IsLookAsked, Leads, LeadsTo, Rests}
-use Rattle.session_world.specs.Printing.{entry_line, line_text}
-use Rattle.session_world.proofs.Giving.{acted, leads_on, printed_first}
+use Rattle.world_table.specs.Printing.{entry_line, line_text}
+use Rattle.session_world.proofs.Giving.{acted, leads_on, one_line, printed_first}
 use Rattle.session_world.proofs.Turning.{on_check, on_draw, on_fault, on_locked, on_nothing, on_observe, on_over, on_packet, on_renew, on_settle, on_stale}
 
-module _ (session : ℕ) (peer : Peer) (next : ℕ) (t : Talk) (here now_here : List ℕ) (next_after : ℕ) (after : Talk) where
+module _ (session : ℕ) (peer : Peer) (next : ℕ) (t : Talk) (here now_here : Output) (next_after : ℕ) (after : Talk) where
   -- a turn on which nothing is printed but what is sent
   quietly : (calls more : Calls) (c d : Common) (given : Input) (stream unread : Stream) → Acted session next t given here now_here next_after after →
       going peer calls c next t stream ≡ going peer more d (first_id next t given) (heard t given) unread →
@@ -70,7 +74,7 @@ module _ (session : ℕ) (peer : Peer) (next : ℕ) (t : Talk) (here now_here : 
       quietly calls calls c c (input.Checked checked) stream stream a (on_check peer calls c next stream t look evidences checked begun asks)
 
 -- nothing was read, and the session waits
-pub waits_rests : (session : ℕ) (calls : Calls) (c : Common) (next : ℕ) (t : Talk) (stream unread : Stream) (want : ℕ) (here : List ℕ) → IsBegun t →
+pub waits_rests : (session : ℕ) (calls : Calls) (c : Common) (next : ℕ) (t : Talk) (stream unread : Stream) (want : ℕ) (here : Output) → IsBegun t →
     asked next t ≡ ask.Read want → Takes want stream unread found.Nothing → Rests session Open here c next t unread here calls c next t stream
 waits_rests session calls c next t stream unread want here begun asks takes =
     subst (λ (s : Stream). LeadsTo session here (stops c next t s) here (going Open calls c next t stream)) (sym takes.0)
@@ -99,7 +103,7 @@ module _ (calls : Calls) (c : Common) (next : ℕ) (stream : Stream) where
   on_failed (Looks true who k) want missing begun asks is = absurd (cc)
   on_failed _ want missing begun asks is = absurd (cc)
 
-module _ (session : ℕ) (next : ℕ) (t : Talk) (here now_here : List ℕ) (next_after : ℕ) (after : Talk) where
+module _ (session : ℕ) (next : ℕ) (t : Talk) (here now_here : Output) (next_after : ℕ) (after : Talk) where
   pub closed_leads : (calls : Calls) (c : Common) (stream unread : Stream) (want : ℕ) (cut : Bool) → IsBegun t → asked next t ≡ ask.Read want →
       Takes want stream unread found.Nothing → cut ≡ not (length unread.bytes == 0) →
       Acted session next t (input.End cut) here now_here next_after after →
@@ -120,54 +124,54 @@ module _ (session : ℕ) (next : ℕ) (t : Talk) (here now_here : List ℕ) (nex
       (on_failed calls c next stream t want takes.1.0 begun asks takes.1.1))
 
   -- a line is printed, an input is given, and what is sent because of it is printed
-  told : (peer : Peer) (more : Calls) (d : Common) (line : Line) (given : Input) (stream : Stream) (middle : List ℕ) →
-      middle ≡ here ++ line_text session line → Acted session next t given middle now_here next_after after →
+  told : (peer : Peer) (more : Calls) (d : Common) (line : Line) (given : Input) (stream : Stream) (middle : Output) → sends_in (line ∷ []) ≡ [] →
+      middle ≡ record here { lines = here.lines ++ line_text session line } → Acted session next t given middle now_here next_after after →
       LeadsTo session now_here (going peer more d next_after after stream) here (after_line line (going peer more d (first_id next t given) (heard t given) stream))
-  told peer more d line given stream middle printed a =
+  told peer more d line given stream middle quiet printed a =
       leads_on session now_here middle here _ _ _
       (acted session peer more d next t given stream middle now_here next_after after a.printed a.stands a.next_is)
-      (printed_first session here middle (line ∷ []) _ (printed ∙ ap (λ (text : List ℕ). here ++ text) (sym (append-nil (line_text session line)))))
+      (printed_first session here middle (line ∷ []) _ (printed ∙ one_line session line here quiet))
 
-  leads_by : (peer : Peer) (calls more : Calls) (c d : Common) (line : Line) (given : Input) (stream : Stream) (middle : List ℕ) →
-      middle ≡ here ++ line_text session line → Acted session next t given middle now_here next_after after →
+  leads_by : (peer : Peer) (calls more : Calls) (c d : Common) (line : Line) (given : Input) (stream : Stream) (middle : Output) → sends_in (line ∷ []) ≡ [] →
+      middle ≡ record here { lines = here.lines ++ line_text session line } → Acted session next t given middle now_here next_after after →
       going peer calls c next t stream ≡ after_line line (going peer more d (first_id next t given) (heard t given) stream) →
       Leads session peer now_here more d next_after after stream here calls c next t stream
-  leads_by peer calls more c d line given stream middle printed a is =
+  leads_by peer calls more c d line given stream middle quiet printed a is =
       subst (λ (g : Gone). LeadsTo session now_here (going peer more d next_after after stream) here g) (sym is)
-      (told peer more d line given stream middle printed a)
+      (told peer more d line given stream middle quiet printed a)
 
   -- an account was looked at, for the first time or again
-  pub observe_leads : (peer : Peer) (calls : Calls) (c d : Common) (stream : Stream) (who : Who) (look : Look) (middle : List ℕ) → calls ≢ Nothing →
+  pub observe_leads : (peer : Peer) (calls : Calls) (c d : Common) (stream : Stream) (who : Who) (look : Look) (middle : Output) → calls ≢ Nothing →
       IsBegun t → asked next t ≡ ask.Observe who → look ≡ seen c who → d ≡ with_entry c (Observed who (seen c who)) →
-      middle ≡ here ++ entry_line (next_number c) (Observed who (seen c who)) →
+      middle ≡ record here { lines = here.lines ++ entry_line (next_number c) (Observed who (seen c who)) } →
       Acted session next t (input.Looked look) middle now_here next_after after →
       Leads session peer now_here (spent calls) d next_after after stream here calls c next t stream
   unfolding line_text
   observe_leads peer calls c d stream who look middle some begun asks is common printed a =
-      leads_by peer calls (spent calls) c d (Adds (next_number c) (Observed who (seen c who))) (input.Looked look) stream middle printed a
+      leads_by peer calls (spent calls) c d (Adds (next_number c) (Observed who (seen c who))) (input.Looked look) stream middle refl printed a
       (on_observe peer calls c next stream t who some begun asks ∙ same)
     where
       same : after_line (Adds (next_number c) (Observed who (seen c who))) (going peer (spent calls) (with_entry c (Observed who (seen c who))) (first_id next t (input.Looked (seen c who))) (heard t (input.Looked (seen c who))) stream)
           ≡ after_line (Adds (next_number c) (Observed who (seen c who))) (going peer (spent calls) d (first_id next t (input.Looked look)) (heard t (input.Looked look)) stream)
       same = cc
 
-  pub renew_leads : (peer : Peer) (calls : Calls) (c d : Common) (stream : Stream) (who : Who) (look : Look) (middle : List ℕ) → calls ≢ Nothing →
+  pub renew_leads : (peer : Peer) (calls : Calls) (c d : Common) (stream : Stream) (who : Who) (look : Look) (middle : Output) → calls ≢ Nothing →
       IsBegun t → asked next t ≡ ask.Renew who → look ≡ seen c who → d ≡ with_entry c (Observed who (seen c who)) →
-      middle ≡ here ++ entry_line (next_number c) (Observed who (seen c who)) →
+      middle ≡ record here { lines = here.lines ++ entry_line (next_number c) (Observed who (seen c who)) } →
       Acted session next t (input.Looked look) middle now_here next_after after →
       Leads session peer now_here (spent calls) d next_after after stream here calls c next t stream
   unfolding line_text
   renew_leads peer calls c d stream who look middle some begun asks is common printed a =
-      leads_by peer calls (spent calls) c d (Adds (next_number c) (Observed who (seen c who))) (input.Looked look) stream middle printed a
+      leads_by peer calls (spent calls) c d (Adds (next_number c) (Observed who (seen c who))) (input.Looked look) stream middle refl printed a
       (on_renew peer calls c next stream t who some begun asks ∙ same)
     where
       same : after_line (Adds (next_number c) (Observed who (seen c who))) (going peer (spent calls) (with_entry c (Observed who (seen c who))) (first_id next t (input.Looked (seen c who))) (heard t (input.Looked (seen c who))) stream)
           ≡ after_line (Adds (next_number c) (Observed who (seen c who))) (going peer (spent calls) d (first_id next t (input.Looked look)) (heard t (input.Looked look)) stream)
       same = cc
 
-  pub look_leads : (asks : Ask) (peer : Peer) (calls : Calls) (c d : Common) (stream : Stream) (who : Who) (look : Look) (middle : List ℕ) → calls ≢ Nothing →
+  pub look_leads : (asks : Ask) (peer : Peer) (calls : Calls) (c d : Common) (stream : Stream) (who : Who) (look : Look) (middle : Output) → calls ≢ Nothing →
       IsBegun t → asked next t ≡ asks → IsLookAsked asks who → look ≡ seen c who → d ≡ with_entry c (Observed who (seen c who)) →
-      middle ≡ here ++ entry_line (next_number c) (Observed who (seen c who)) →
+      middle ≡ record here { lines = here.lines ++ entry_line (next_number c) (Observed who (seen c who)) } →
       Acted session next t (input.Looked look) middle now_here next_after after →
       Leads session peer now_here (spent calls) d next_after after stream here calls c next t stream
   look_leads (ask.Observe whose) peer calls c d stream who look middle some begun asks is_asked is common printed a =
@@ -177,19 +181,19 @@ module _ (session : ℕ) (next : ℕ) (t : Talk) (here now_here : List ℕ) (nex
   look_leads _ peer calls c d stream who look middle some begun asks is_asked is common printed a = absurd is_asked
 
   -- a stale answer
-  pub stale_leads : (peer : Peer) (calls : Calls) (c : Common) (stream : Stream) (checked : CheckedOf) (flags : ℕ) (evidences : List Evidence) (middle : List ℕ) →
+  pub stale_leads : (peer : Peer) (calls : Calls) (c : Common) (stream : Stream) (checked : CheckedOf) (flags : ℕ) (evidences : List Evidence) (middle : Output) →
       calls ≢ Nothing → IsBegun t → asked next t ≡ ask.Settle checked flags → is_stale c checked.look ≡ true → evidences ≡ checked.evidences →
-      middle ≡ here ++ line_text session Stale → Acted session next t (input.Stale evidences) middle now_here next_after after →
+      middle ≡ record here { lines = here.lines ++ line_text session Stale } → Acted session next t (input.Stale evidences) middle now_here next_after after →
       Leads session peer now_here (spent calls) c next_after after stream here calls c next t stream
   stale_leads peer calls c stream checked flags evidences middle some begun asks late is printed a =
-      leads_by peer calls (spent calls) c c Stale (input.Stale evidences) stream middle printed a
+      leads_by peer calls (spent calls) c c Stale (input.Stale evidences) stream middle refl printed a
       (on_stale peer calls c next stream t checked flags some begun asks late
       ∙ ap (λ (e : List Evidence). after_line Stale (going peer (spent calls) c (first_id next t (input.Stale e)) (heard t (input.Stale e)) stream)) (sym is))
 
   -- an attempt is settled
-  settled_so : (peer : Peer) (calls : Calls) (c d : Common) (stream : Stream) (user : List ℕ) (evidences : List Evidence) (flags : ℕ) (reply : Reply) (middle : List ℕ) →
+  settled_so : (peer : Peer) (calls : Calls) (c d : Common) (stream : Stream) (user : List ℕ) (evidences : List Evidence) (flags : ℕ) (reply : Reply) (middle : Output) →
       reply ≡ replied c user evidences flags → d ≡ with_entry c (attempted c user evidences flags) →
-      middle ≡ here ++ entry_line (next_number c) (attempted c user evidences flags) →
+      middle ≡ record here { lines = here.lines ++ entry_line (next_number c) (attempted c user evidences flags) } →
       Acted session next t (input.Settled reply) middle now_here next_after after →
       going peer calls c next t stream ≡ after_line (Adds (next_number c) (attempted c user evidences flags))
       (going peer (spent calls) (with_entry c (attempted c user evidences flags)) (first_id next t (input.Settled (replied c user evidences flags)))
@@ -197,7 +201,7 @@ module _ (session : ℕ) (next : ℕ) (t : Talk) (here now_here : List ℕ) (nex
       Leads session peer now_here (spent calls) d next_after after stream here calls c next t stream
   unfolding line_text
   settled_so peer calls c d stream user evidences flags reply middle is common printed a goes =
-      leads_by peer calls (spent calls) c d (Adds (next_number c) (attempted c user evidences flags)) (input.Settled reply) stream middle printed a (goes ∙ same)
+      leads_by peer calls (spent calls) c d (Adds (next_number c) (attempted c user evidences flags)) (input.Settled reply) stream middle refl printed a (goes ∙ same)
     where
       same : after_line (Adds (next_number c) (attempted c user evidences flags))
           (going peer (spent calls) (with_entry c (attempted c user evidences flags)) (first_id next t (input.Settled (replied c user evidences flags)))
@@ -205,20 +209,20 @@ module _ (session : ℕ) (next : ℕ) (t : Talk) (here now_here : List ℕ) (nex
           ≡ after_line (Adds (next_number c) (attempted c user evidences flags)) (going peer (spent calls) d (first_id next t (input.Settled reply)) (heard t (input.Settled reply)) stream)
       same = cc
 
-  pub settle_leads : (peer : Peer) (calls : Calls) (c d : Common) (stream : Stream) (checked : CheckedOf) (flags : ℕ) (reply : Reply) (middle : List ℕ) →
+  pub settle_leads : (peer : Peer) (calls : Calls) (c d : Common) (stream : Stream) (checked : CheckedOf) (flags : ℕ) (reply : Reply) (middle : Output) →
       calls ≢ Nothing → IsBegun t → asked next t ≡ ask.Settle checked flags → is_stale c checked.look ≡ false →
       reply ≡ replied c checked.look.user checked.evidences flags → d ≡ with_entry c (attempted c checked.look.user checked.evidences flags) →
-      middle ≡ here ++ entry_line (next_number c) (attempted c checked.look.user checked.evidences flags) →
+      middle ≡ record here { lines = here.lines ++ entry_line (next_number c) (attempted c checked.look.user checked.evidences flags) } →
       Acted session next t (input.Settled reply) middle now_here next_after after →
       Leads session peer now_here (spent calls) d next_after after stream here calls c next t stream
   settle_leads peer calls c d stream checked flags reply middle some begun asks fresh is common printed a =
       settled_so peer calls c d stream checked.look.user checked.evidences flags reply middle is common printed a
       (on_settle peer calls c next stream t checked flags some begun asks fresh)
 
-  pub locked_leads : (peer : Peer) (calls : Calls) (c d : Common) (stream : Stream) (user : List ℕ) (evidences : List Evidence) (flags : ℕ) (reply : Reply) (middle : List ℕ) →
+  pub locked_leads : (peer : Peer) (calls : Calls) (c d : Common) (stream : Stream) (user : List ℕ) (evidences : List Evidence) (flags : ℕ) (reply : Reply) (middle : Output) →
       calls ≢ Nothing → IsBegun t → asked next t ≡ ask.SettleLocked user evidences flags →
       reply ≡ replied c user evidences flags → d ≡ with_entry c (attempted c user evidences flags) →
-      middle ≡ here ++ entry_line (next_number c) (attempted c user evidences flags) →
+      middle ≡ record here { lines = here.lines ++ entry_line (next_number c) (attempted c user evidences flags) } →
       Acted session next t (input.Settled reply) middle now_here next_after after →
       Leads session peer now_here (spent calls) d next_after after stream here calls c next t stream
   locked_leads peer calls c d stream user evidences flags reply middle some begun asks is common printed a =
@@ -226,17 +230,17 @@ module _ (session : ℕ) (next : ℕ) (t : Talk) (here now_here : List ℕ) (nex
       (on_locked peer calls c next stream t user evidences flags some begun asks)
 
 -- the end is printed, and nothing more comes
-pub over_rests : (session : ℕ) (peer : Peer) (calls : Calls) (c : Common) (next : ℕ) (t : Talk) (stream : Stream) (how : SessionEnd) (here now_here : List ℕ) →
-    IsBegun t → asked next t ≡ ask.Ended how → now_here ≡ here ++ line_text session (Ends how) → t ≡ Over how →
+pub over_rests : (session : ℕ) (peer : Peer) (calls : Calls) (c : Common) (next : ℕ) (t : Talk) (stream : Stream) (how : SessionEnd) (here now_here : Output) →
+    IsBegun t → asked next t ≡ ask.Ended how → now_here ≡ record here { lines = here.lines ++ line_text session (Ends how) } → t ≡ Over how →
     Rests session peer now_here c next t stream here calls c next t stream
 over_rests session peer calls c next t stream how here now_here begun asks printed is =
     subst (λ (g : Gone). LeadsTo session now_here (stops c next t stream) here g) (sym (on_over peer calls c next stream t how begun asks))
     (subst (λ (u : Talk). LeadsTo session now_here (stops c next t stream) here (after_line (Ends how) (stops c next u stream))) is
     (printed_first session here now_here (Ends how ∷ []) (stops c next t stream)
-    (printed ∙ ap (λ (text : List ℕ). here ++ text) (sym (append-nil (line_text session (Ends how)))))))
+    (printed ∙ one_line session (Ends how) here refl)))
 
 -- no call is allowed, and the session waits for one
-module _ (session : ℕ) (peer : Peer) (c : Common) (next : ℕ) (stream : Stream) (here : List ℕ) where
+module _ (session : ℕ) (peer : Peer) (c : Common) (next : ℕ) (stream : Stream) (here : Output) where
   abbrev Waits : Talk → Type 0
   Waits t = Rests session peer here c next t stream here Nothing c next t stream
 
@@ -265,14 +269,14 @@ over_is next (Looks false who k) how begun asks = absurd (cc)
 over_is next (Looks true who k) how begun asks = absurd (cc)
 over_is next _ how begun asks = absurd (cc)
 
-pub ended_rests : (session : ℕ) (peer : Peer) (calls : Calls) (c : Common) (next : ℕ) (t : Talk) (stream : Stream) (how : SessionEnd) (here now_here : List ℕ) →
-    IsBegun t → asked next t ≡ ask.Ended how → now_here ≡ here ++ line_text session (Ends how) →
+pub ended_rests : (session : ℕ) (peer : Peer) (calls : Calls) (c : Common) (next : ℕ) (t : Talk) (stream : Stream) (how : SessionEnd) (here now_here : Output) →
+    IsBegun t → asked next t ≡ ask.Ended how → now_here ≡ record here { lines = here.lines ++ line_text session (Ends how) } →
     Rests session peer now_here c next t stream here calls c next t stream
 ended_rests session peer calls c next t stream how here now_here begun asks printed =
     over_rests session peer calls c next t stream how here now_here begun asks printed (over_is next t how begun asks)
 
 -- the same, where a test has told that no call is allowed
-pub none_rests : (calls : Calls) (session : ℕ) (peer : Peer) (c : Common) (next : ℕ) (t : Talk) (stream : Stream) (here : List ℕ) →
+pub none_rests : (calls : Calls) (session : ℕ) (peer : Peer) (c : Common) (next : ℕ) (t : Talk) (stream : Stream) (here : Output) →
     (calls ≢ Nothing → false ≡ true) → IsBegun t → (asks : Ask) → asks ≡ asked next t → IsCall asks →
     Rests session peer here c next t stream here calls c next t stream
 none_rests Nothing session peer c next t stream here not_allowed begun asks is is_call =
@@ -293,7 +297,7 @@ none_rests All session peer c next t stream here not_allowed begun asks is is_ca
     differs e = absurd (cc)
 
 -- a new session begins
-pub begin_leads : (session : ℕ) (peer : Peer) (next : ℕ) (k : List ℕ → Talk) (here now_here : List ℕ) (next_after : ℕ) (after : Talk)
+pub begin_leads : (session : ℕ) (peer : Peer) (next : ℕ) (k : List ℕ → Talk) (here now_here : Output) (next_after : ℕ) (after : Talk)
     (calls : Calls) (c d : Common) (stream : Stream) (nonce : List ℕ) → nonce ≡ drawn_nonce (c.drawn + 1) → d ≡ with_draw c →
     Acted session next (Draws true k) (input.Start nonce) here now_here next_after after →
     Leads session peer now_here calls d next_after after stream here calls c next (Draws true k) stream

@@ -22,10 +22,12 @@ use Rattle.session_talk.specs.declared.inputs.Input.TheVariants as input
 use Rattle.session_world.specs.declared.calls.Calls.{Calls}
 use Rattle.session_world.specs.declared.calls.Calls.TheVariants.{Nothing, One, All}
 use Rattle.session_world.specs.declared.calls.Peer.{Peer}
-use Rattle.session_world.specs.Drawing.{drawn_nonce}
-use Rattle.session_world.specs.Going.{Adds, Common, Gone, Sends, Stale, adding, after_line, attempted, by_front, closing, going, if_allowed, is_stale, next_number, over, replied, seen, spent, unread_by, with_draw, with_entry}
+use Rattle.world_table.specs.Drawing.{drawn_nonce}
+use Rattle.session_world.specs.Going.{Gone, adding, after_line, by_front, closing, going, if_allowed, over, spent, unread_by}
+use Rattle.world_table.specs.Table.{Common, attempted, is_stale, next_number, replied, seen, with_draw, with_entry}
+use Rattle.world_table.specs.Printing.{Adds, Sends, Stale}
 use Rattle.session_world.specs.Leading.{after_lines}
-use Rattle.session_world.specs.Printing.{send_lines}
+use Rattle.world_table.specs.Printing.{send_lines}
 
 -- what a talk says first is sent first
 pub going_said : (peer : Peer) (calls : Calls) (c : Common) (next : ℕ) (t : Talk) (stream : Stream) →

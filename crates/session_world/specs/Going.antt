@@ -1,55 +1,23 @@
 -- How a session goes on in a world: it reads what its peer has sent, is given draws and checks at once, and is
 -- answered as many calls of the account store as an event allows.
-use Rattle.std.specs.Prelude.{ℕ, ◌+◌, ◌==◌, nat_lt, not, Bool, if◌then◌else◌, List, [], ◌∷◌, length}
+use Rattle.std.specs.Prelude.{ℕ, ◌+◌, ◌==◌, not, if◌then◌else◌, List, [], ◌∷◌, length}
 use Rattle.packet_frame.specs.Front.{Front, Whole, Part, Fault}
 use Rattle.packet_frame.specs.Packets.{id_after}
 use Rattle.packet_frame.specs.declared.packets.FrameFault.{FrameFault}
-use Rattle.factor_chain.specs.declared.credentials.Look.{Look}
-use Rattle.factor_chain.specs.declared.evidence_list.Evidence.{Evidence}
 use Rattle.account_history.specs.declared.entries.Entry.{Entry}
-use Rattle.account_history.specs.declared.entries.Entry.TheVariants.{Observed, Attempted}
-use Rattle.account_history.specs.declared.entries.Log.{Log}
-use Rattle.account_history.specs.declared.entries.Reply.{Reply}
-use Rattle.account_history.specs.declared.entries.Who.{Who}
-use Rattle.account_history.specs.Answers.{attempt_reply, look_of}
-use Rattle.account_history.specs.Histories.{history, noted}
-use Rattle.account_history.specs.Stamps.{stamp}
+use Rattle.account_history.specs.declared.entries.Entry.TheVariants.{Observed}
 use Rattle.session_talk.specs.declared.ends.SessionEnd.{SessionEnd}
 use Rattle.session_talk.specs.declared.ends.SessionEnd.TheVariants as end
-use Rattle.session_talk.specs.Owed.{Sent}
 use Rattle.session_talk.specs.Talk.{Talk, Says, Hears, Draws, Looks, Checks, Settles, SettlesLocked, Over}
 use Rattle.session_talk.specs.Turns.{faulted, id_behind, wanted}
 use Rattle.session_talk.specs.Wired.{Stream, behind_of, front_of}
-use Rattle.session_world.specs.Drawing.{drawn_nonce}
+use Rattle.world_table.specs.Drawing.{drawn_nonce}
+use Rattle.world_table.specs.Table.{Common, attempted, is_stale, next_number, replied, seen, with_draw, with_entry}
+use Rattle.world_table.specs.Printing.{Adds, Ends, Line, Sends, Stale}
 use Rattle.session_world.specs.declared.calls.Calls.{Calls}
 use Rattle.session_world.specs.declared.calls.Calls.TheVariants.{Nothing, One, All}
 use Rattle.session_world.specs.declared.calls.Peer.{Peer}
 use Rattle.session_world.specs.declared.calls.Peer.TheVariants.{Open, Closed, Failed}
-
--- what all sessions of a world have in common: the history, the reading of the clock, and how many nonces were drawn
-pub record Common : Type 0 where
-  pub log : Log
-  pub clock : ℕ
-  pub drawn : ℕ
-
-abbrev pub with_entry : Common → Entry → Common
-with_entry c entry = record c { log = noted c.log entry }
-
-abbrev pub with_draw : Common → Common
-with_draw c = record c { drawn = c.drawn + 1 }
-
--- what is printed of a session
-pub data Line : Type 0 where
-  -- a payload is sent
-  Sends : Sent → Line
-  -- an entry is added, as the one of this number
-  Adds : (number : ℕ) → Entry → Line
-  -- an answer was stale
-  Stale : Line
-  -- the session ends
-  Ends : SessionEnd → Line
-  -- nothing was to be done
-  Idle : Line
 
 -- what came of going on: the lines, in order, what is common, the id of the next packet, where the talk stands, and the
 -- bytes that weren't read
@@ -99,34 +67,9 @@ if_allowed Nothing allowed otherwise = otherwise
 if_allowed One allowed otherwise = allowed
 if_allowed All allowed otherwise = allowed
 
--- the number of the next entry
-abbrev pub next_number : Common → ℕ
-next_number c = length c.log.entries + 1
-
 -- an entry is added, and then the session goes on
 abbrev pub adding : Common → Entry → (Common → Gone) → Gone
 adding c entry goes_on = after_line (Adds (next_number c) entry) (goes_on (with_entry c entry))
-
--- the look that is answered now
-abbrev pub seen : Common → Who → Look
-seen c who = look_of (history c.log) who
-
--- the reply that is answered now
-abbrev pub replied : Common → (user : List ℕ) → List Evidence → (flags : ℕ) → Reply
-replied c user evidences flags = attempt_reply (history c.log) user evidences flags c.clock
-
-abbrev pub attempted : Common → (user : List ℕ) → List Evidence → (flags : ℕ) → Entry
-attempted c user evidences flags = Attempted (record {
-  user = user;
-  evidences = evidences;
-  flags = flags;
-  reading = c.clock;
-  reply = replied c user evidences flags;
-})
-
--- the user's credentials have changed since the look
-abbrev pub is_stale : Common → Look → Bool
-is_stale c look = nat_lt look.stamp (stamp (history c.log) look.user)
 
 unfoldable pub going : Peer → Calls → Common → (next : ℕ) → Talk → Stream → Gone
 going peer calls c next (Says payload t) stream =

@@ -11,8 +11,13 @@ use Rattle.session_talk.specs.declared.inputs.Input.TheVariants as input
 use Rattle.session_talk.specs.Wired.{Stream}
 use Rattle.session_world.specs.declared.calls.Calls.{Calls}
 use Rattle.session_world.specs.declared.calls.Peer.{Peer}
-use Rattle.session_world.specs.Going.{Common, Gone, Line, going, stops}
-use Rattle.session_world.specs.Printing.{lines_text, send_lines}
+use Rattle.session_world.specs.declared.output.Output.{Output}
+use Rattle.session_world.specs.Lines.{sends_in}
+use Rattle.client_wire.specs.Packing.{packets_text}
+use Rattle.session_world.specs.Going.{Gone, going, stops}
+use Rattle.world_table.specs.Table.{Common}
+use Rattle.world_table.specs.Printing.{Line}
+use Rattle.world_table.specs.Printing.{lines_text, send_lines}
 
 -- these lines, and then all that came of going on
 abbrev pub after_lines : List Line → Gone → Gone
@@ -22,10 +27,17 @@ after_lines before g = record g { lines = before ++ g.lines }
 abbrev pub sent_because : (next : ℕ) → Talk → Input → List Line
 sent_because next t given = send_lines (sent_from (first_id next t given) (said (heard t given)))
 
--- what is printed so far and what is still to come of going on are, together, what is printed in another place and what
--- is to come there
-pub record LeadsTo (session : ℕ) (here : List ℕ) (coming : Gone) (there : List ℕ) (all : Gone) : Type 0 where
-  pub printed : here ++ lines_text session coming.lines ≡ there ++ lines_text session all.lines
+-- with further lines of a session: their text is printed, and the packets of the payloads in them are sent
+abbrev pub with_lines : (session : ℕ) → List Line → Output → Output
+with_lines session more o = record {
+  lines = o.lines ++ lines_text session more;
+  sent = o.sent ++ packets_text (sends_in more);
+}
+
+-- what was put out so far and what is still to come of going on are, together, what was put out in another place and
+-- what is to come there
+pub record LeadsTo (session : ℕ) (here : Output) (coming : Gone) (there : Output) (all : Gone) : Type 0 where
+  pub printed : with_lines session coming.lines here ≡ with_lines session all.lines there
   pub common : coming.common ≡ all.common
   pub next : coming.next ≡ all.next
   pub at : coming.at ≡ all.at
@@ -38,20 +50,20 @@ IsGivenBack (input.Stale evidences) = Unit {0}
 IsGivenBack _ = ⊥
 
 -- the same, where a session goes on from one state to another
-abbrev pub Leads : (session : ℕ) → Peer → (here : List ℕ) → Calls → Common → (next : ℕ) → Talk → Stream →
-    (there : List ℕ) → Calls → Common → (next_before : ℕ) → Talk → Stream → Type 0
+abbrev pub Leads : (session : ℕ) → Peer → (here : Output) → Calls → Common → (next : ℕ) → Talk → Stream →
+    (there : Output) → Calls → Common → (next_before : ℕ) → Talk → Stream → Type 0
 Leads session peer here calls c next t stream there calls_before d next_before u before =
     LeadsTo session here (going peer calls c next t stream) there (going peer calls_before d next_before u before)
 
 -- a session waits, and nothing more comes
-abbrev pub Rests : (session : ℕ) → Peer → (here : List ℕ) → Common → (next : ℕ) → Talk → Stream →
-    (there : List ℕ) → Calls → Common → (next_before : ℕ) → Talk → Stream → Type 0
+abbrev pub Rests : (session : ℕ) → Peer → (here : Output) → Common → (next : ℕ) → Talk → Stream →
+    (there : Output) → Calls → Common → (next_before : ℕ) → Talk → Stream → Type 0
 Rests session peer here c next t stream there calls d next_before u before =
     LeadsTo session here (stops c next t stream) there (going peer calls d next_before u before)
 
 -- what was given to a session: what it printed, and where it then stands
-pub record Acted (session : ℕ) (next : ℕ) (t : Talk) (given : Input) (here now_here : List ℕ) (next_after : ℕ) (after : Talk) : Type 0 where
-  pub printed : now_here ≡ here ++ lines_text session (sent_because next t given)
+pub record Acted (session : ℕ) (next : ℕ) (t : Talk) (given : Input) (here now_here : Output) (next_after : ℕ) (after : Talk) : Type 0 where
+  pub printed : now_here ≡ with_lines session (sent_because next t given) here
   pub stands : after ≡ rest (heard t given)
   pub next_is : next_after ≡ id_behind_all (first_id next t given) (said (heard t given))
 

@@ -1,9 +1,11 @@
--- What the code keeps of a world: its sessions by their numbers, and what an event leaves.
+-- What the code keeps of a world: its sessions by their numbers, and what is left of what was done.
 use Rattle.std.specs.Prelude.{◌≡◌, ℕ, ◌==◌, Bool, true, false, Option, Some, None}
 use Rattle.std.specs.BTreeMap.{BTreeMap, get}
 use Rattle.std.specs.Ordering.{nat_cmp}
 use Rattle.session_world.specs.declared.held.Held.{Held}
-use Rattle.session_world.specs.Going.{Common}
+use Rattle.session_world.specs.declared.output.Output.{Output}
+use Rattle.session_world.specs.Leading.{with_lines}
+use Rattle.world_table.specs.Table.{Common}
 use Rattle.session_world.specs.Worlds.{AreAt, Happened, IsAt, Place, Shows, World}
 
 -- the session of a number was taken out, and another one stands at its place
@@ -29,3 +31,7 @@ world_of common places = record { common = common; places = places }
 pub record Follows (h : Happened) (common : Common) (sessions : BTreeMap ℕ Held) : Type 0 where
   pub common_is : common ≡ h.world.common
   pub are_at : AreAt sessions h.world.places
+
+-- what is put out by what happened
+abbrev pub put_by : Happened → Output → Output
+put_by h o = with_lines h.session h.lines o

@@ -1,4 +1,4 @@
--- What events come to: the lines and the bytes of each session, and what holds of them after any events.
+-- What doings come to: the lines and the bytes of each session, and what holds of them after any doings.
 use Rattle.std.specs.Prelude.{◌≡◌, ℕ, ◌+◌, ◌==◌, if◌then◌else◌, List, [], ◌∷◌, ◌++◌, Option, Some, None, option_to_list}
 use Rattle.account_history.specs.Histories.{history}
 use Rattle.account_history.specs.Legal.{IsLegal}
@@ -7,18 +7,16 @@ use Rattle.account_history.specs.declared.entries.Log.{Log}
 use Rattle.account_history.specs.declared.entries.Opening.{Opening}
 use Rattle.account_machine.specs.Openings.{opening_start}
 use Rattle.account_rules.specs.declared.accounts.Settings.{Settings}
-use Rattle.script_text.specs.declared.event.Event.{Event}
-use Rattle.session_talk.specs.Owed.{Sent}
 use Rattle.session_talk.specs.Transcript as told
 use Rattle.session_talk.specs.Transcript.{Transcript}
 use Rattle.session_talk.specs.declared.ends.SessionEnd.{SessionEnd}
 use Rattle.session_world.specs.declared.calls.Peer.{Peer}
 use Rattle.session_world.specs.declared.calls.Peer.TheVariants.{Open, Closed, Failed}
-use Rattle.session_world.specs.Going.{Line, Sends, Adds, Stale, Ends, Idle}
-use Rattle.session_world.specs.Printing.{lines_text}
-use Rattle.session_world.specs.Worlds.{GoesOn, IsIdle, Move, Place, Sets, World, after_all, happens, move, new_world}
+use Rattle.world_table.specs.Printing.{Line, Idle}
+use Rattle.session_world.specs.Lines.{Numbered, ends_in, entries_in, numbered_in, sends_in}
+use Rattle.session_world.specs.Worlds.{Doing, GoesOn, IsIdle, Move, Place, Sets, World, after_all, does, move, new_world}
 
--- ## Over events
+-- ## Over doings
 
 -- the lines that are printed
 abbrev pub lines_in : Move → List Line
@@ -26,9 +24,9 @@ lines_in (Sets reading) = []
 lines_in (GoesOn number peer bytes g) = g.lines
 lines_in (IsIdle number) = Idle ∷ []
 
-abbrev pub all_lines : World → List Event → List Line
+abbrev pub all_lines : World → List Doing → List Line
 all_lines w [] = []
-all_lines w (first ∷ events) = lines_in (move w first) ++ all_lines (happens w first).world events
+all_lines w (first ∷ doings) = lines_in (move w first) ++ all_lines (does w first).world doings
 
 -- of them, those of one session
 abbrev pub lines_of : (number : ℕ) → Move → List Line
@@ -36,9 +34,9 @@ lines_of number (Sets reading) = []
 lines_of number (GoesOn other peer bytes g) = if number == other then g.lines else []
 lines_of number (IsIdle other) = if number == other then Idle ∷ [] else []
 
-abbrev pub session_lines : (number : ℕ) → World → List Event → List Line
+abbrev pub session_lines : (number : ℕ) → World → List Doing → List Line
 session_lines number w [] = []
-session_lines number w (first ∷ events) = lines_of number (move w first) ++ session_lines number (happens w first).world events
+session_lines number w (first ∷ doings) = lines_of number (move w first) ++ session_lines number (does w first).world doings
 
 -- the bytes that come to one session
 abbrev pub bytes_of : (number : ℕ) → Move → List ℕ
@@ -46,53 +44,11 @@ bytes_of number (Sets reading) = []
 bytes_of number (GoesOn other peer bytes g) = if number == other then bytes else []
 bytes_of number (IsIdle other) = []
 
-abbrev pub session_bytes : (number : ℕ) → World → List Event → List ℕ
+abbrev pub session_bytes : (number : ℕ) → World → List Doing → List ℕ
 session_bytes number w [] = []
-session_bytes number w (first ∷ events) = bytes_of number (move w first) ++ session_bytes number (happens w first).world events
+session_bytes number w (first ∷ doings) = bytes_of number (move w first) ++ session_bytes number (does w first).world doings
 
--- ## Among lines
-
--- the payloads that are sent
-abbrev pub sends_in : List Line → List Sent
-sends_in [] = []
-sends_in (Sends sent ∷ lines) = sent ∷ sends_in lines
-sends_in (Adds number entry ∷ lines) = sends_in lines
-sends_in (Stale ∷ lines) = sends_in lines
-sends_in (Ends how ∷ lines) = sends_in lines
-sends_in (Idle ∷ lines) = sends_in lines
-
--- the entries that are added
-abbrev pub entries_in : List Line → List Entry
-entries_in [] = []
-entries_in (Sends sent ∷ lines) = entries_in lines
-entries_in (Adds number entry ∷ lines) = entry ∷ entries_in lines
-entries_in (Stale ∷ lines) = entries_in lines
-entries_in (Ends how ∷ lines) = entries_in lines
-entries_in (Idle ∷ lines) = entries_in lines
-
--- the same, with their numbers
-pub record Numbered : Type 0 where
-  pub number : ℕ
-  pub entry : Entry
-
-abbrev pub numbered_in : List Line → List Numbered
-numbered_in [] = []
-numbered_in (Sends sent ∷ lines) = numbered_in lines
-numbered_in (Adds number entry ∷ lines) = record { number = number; entry = entry } ∷ numbered_in lines
-numbered_in (Stale ∷ lines) = numbered_in lines
-numbered_in (Ends how ∷ lines) = numbered_in lines
-numbered_in (Idle ∷ lines) = numbered_in lines
-
--- the ends
-abbrev pub ends_in : List Line → List SessionEnd
-ends_in [] = []
-ends_in (Sends sent ∷ lines) = ends_in lines
-ends_in (Adds number entry ∷ lines) = ends_in lines
-ends_in (Stale ∷ lines) = ends_in lines
-ends_in (Ends how ∷ lines) = how ∷ ends_in lines
-ends_in (Idle ∷ lines) = ends_in lines
-
--- ## What holds after any events
+-- ## What holds after any doings
 
 -- entries with the numbers from this one on
 abbrev pub numbered : (first : ℕ) → List Entry → List Numbered
@@ -106,11 +62,11 @@ pub record IsHistory (openings : List Opening) (settings : Settings) (log : Log)
   pub legal : IsLegal (history log)
 
 -- The history is legal, and its entries are those that are printed.
-abbrev pub HistoriesAreLegal : Type 0
-HistoriesAreLegal =
-    (openings : List Opening) (settings : Settings) (events : List Event) →
+abbrev pub DoingsAreLegal : Type 0
+DoingsAreLegal =
+    (openings : List Opening) (settings : Settings) (doings : List Doing) →
     let w = new_world openings settings in
-    IsHistory openings settings (after_all w events).common.log (all_lines w events)
+    IsHistory openings settings (after_all w doings).common.log (all_lines w doings)
 
 -- how a peer's bytes go on
 abbrev pub as_told : Peer → told.Peer
@@ -131,12 +87,12 @@ pub record IsTranscript (number : ℕ) (peer : Peer) (bytes : List ℕ) (lines :
 
 -- What is printed of each session is a transcript, over the bytes that came to it: however the sessions are interleaved
 -- and their bytes are cut.
-abbrev pub SessionsAreTranscripts : Type 0
-SessionsAreTranscripts =
-    (openings : List Opening) (settings : Settings) (events : List Event) (number : ℕ) →
+abbrev pub DoingsAreTranscripts : Type 0
+DoingsAreTranscripts =
+    (openings : List Opening) (settings : Settings) (doings : List Doing) (number : ℕ) →
     let w = new_world openings settings in
-    IsTranscript number (peer_at ((after_all w events).places number)) (session_bytes number w events) (session_lines number w events)
+    IsTranscript number (peer_at ((after_all w doings).places number)) (session_bytes number w doings) (session_lines number w doings)
 
--- An event that prints that it is idle changes nothing.
-abbrev pub IdleChangesNothing : Type 0
-IdleChangesNothing = (w : World) (event : Event) (number : ℕ) → (happens w event).text ≡ lines_text number (Idle ∷ []) → (happens w event).world ≡ w
+-- What prints that nothing can be done changes nothing.
+abbrev pub IdleDoingsChangeNothing : Type 0
+IdleDoingsChangeNothing = (w : World) (doing : Doing) → (does w doing).lines ≡ Idle ∷ [] → (does w doing).world ≡ w

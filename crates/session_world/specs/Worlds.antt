@@ -1,4 +1,4 @@
--- A world of sessions, event by event.
+-- A world of sessions, and what is done to it.
 use Rattle.std.specs.Prelude.{◌≡◌, ℕ, ◌==◌, Bool, true, false, if◌then◌else◌, List, [], ◌∷◌, ◌++◌, Option, Some, None}
 use Rattle.std.specs.BTreeMap.{BTreeMap, get}
 use Rattle.std.specs.Ordering.{nat_cmp}
@@ -7,17 +7,16 @@ use Rattle.session_world.specs.declared.held.Held.{Held}
 use Rattle.account_history.specs.declared.entries.Opening.{Opening}
 use Rattle.account_machine.specs.Openings.{opening_start}
 use Rattle.account_rules.specs.declared.accounts.Settings.{Settings}
-use Rattle.script_text.specs.declared.event.Event.{Event}
-use Rattle.script_text.specs.declared.event.Event.TheVariants as event
 use Rattle.session_talk.specs.Logins.{session}
 use Rattle.session_talk.specs.Talk.{Talk, Says, Hears, Draws, Looks, Checks, Settles, SettlesLocked, Over}
 use Rattle.session_talk.specs.Wired.{Stream}
 use Rattle.session_talk.specs.declared.actions.Ask.{Ask}
 use Rattle.session_talk.specs.declared.actions.Ask.TheVariants as ask
-use Rattle.session_world.specs.Going.{Common, Gone, Idle, going}
-use Rattle.session_world.specs.Printing.{lines_text}
+use Rattle.session_world.specs.Going.{Gone, going}
+use Rattle.world_table.specs.Table.{Common}
+use Rattle.world_table.specs.Printing.{Line, Idle}
 use Rattle.session_world.specs.declared.calls.Calls.{Calls}
-use Rattle.session_world.specs.declared.calls.Calls.TheVariants.{Nothing, One, All}
+use Rattle.session_world.specs.declared.calls.Calls.TheVariants.{Nothing}
 use Rattle.session_world.specs.declared.calls.Peer.{Peer}
 use Rattle.session_world.specs.declared.calls.Peer.TheVariants.{Open, Closed, Failed}
 
@@ -33,7 +32,7 @@ pub record World : Type 0 where
   pub common : Common
   pub places : ℕ → Option Place
 
--- the world of a start, before any event
+-- the world of a start
 abbrev pub new_world : List Opening → Settings → World
 new_world openings settings = record {
   common = record { log = record { start = opening_start openings settings; entries = [] }; clock = 0; drawn = 0 };
@@ -44,14 +43,15 @@ new_world openings settings = record {
 abbrev pub with_place : (ℕ → Option Place) → ℕ → Place → ℕ → Option Place
 with_place places number place other = if other == number then Some place else places other
 
--- what came of an event
+-- what came of something that is done: the world, and the lines of a session
 pub record Happened : Type 0 where
   pub world : World
-  pub text : List ℕ
+  pub session : ℕ
+  pub lines : List Line
 
 -- nothing
 abbrev pub idle : World → ℕ → Happened
-idle w number = record { world = w; text = lines_text number (Idle ∷ []) }
+idle w number = record { world = w; session = number; lines = Idle ∷ [] }
 
 -- a session goes on
 abbrev pub goes : World → ℕ → Peer → Gone → Happened
@@ -60,7 +60,8 @@ goes w number peer g = record {
     common = g.common;
     places = with_place w.places number (record { next = g.next; at = g.at; unread = g.unread; peer = peer });
   };
-  text = lines_text number g.lines;
+  session = number;
+  lines = g.lines;
 }
 
 abbrev pub going_on : World → ℕ → Calls → Place → Happened
@@ -90,6 +91,10 @@ is_call (ask.Settle checked flags) = true
 is_call (ask.SettleLocked user evidences flags) = true
 is_call (ask.Ended how) = false
 
+abbrev pub is_end : Ask → Bool
+is_end (ask.Ended how) = true
+is_end _ = false
+
 -- bytes and the end still come to a session that hasn't ended, and whose peer is there
 abbrev pub is_there : Talk → Peer → Bool
 is_there (Over how) peer = false
@@ -103,14 +108,42 @@ is_open_by asks Open = true
 is_open_by asks Closed = false
 is_open_by asks Failed = false
 
+-- the same of a session of some number, if there is one
+abbrev pub waits_at : Option Place → Bool
+waits_at None = false
+waits_at (Some place) = waits place.at
+
+abbrev pub is_there_at : Option Place → Bool
+is_there_at None = false
+is_there_at (Some place) = is_there place.at place.peer
+
+abbrev pub is_over : Talk → Bool
+is_over (Over how) = true
+is_over t = false
+
+-- it has ended
+abbrev pub is_over_at : Option Place → Bool
+is_over_at None = false
+is_over_at (Some place) = is_over place.at
+
 -- further bytes have come
 abbrev pub more_at : Place → List ℕ → Place
 more_at place bytes = record place { unread = record { place = place.unread.place; bytes = place.unread.bytes ++ bytes } }
 
--- ## What an event comes to
+-- ## What is done
 
--- the clock is set; or a session goes on, whose peer stands so and to which further bytes have come; or nothing can be
--- done
+-- the clock is set; a session begins; its peer sends bytes; it is answered so many calls of the account store; its peer
+-- ends, or its link fails; or nothing can be done
+pub data Doing : Type 0 where
+  ToSet : (reading : ℕ) → Doing
+  ToOpen : (session : ℕ) → Doing
+  ToSend : (session : ℕ) → (bytes : List ℕ) → Doing
+  ToCall : (session : ℕ) → Calls → Doing
+  ToLeave : (session : ℕ) → Peer → Doing
+  ToIdle : (session : ℕ) → Doing
+
+-- What it comes to: the clock is set; or a session goes on, whose peer stands so and to which further bytes have come;
+-- or nothing can be done.
 pub data Move : Type 0 where
   Sets : (reading : ℕ) → Move
   GoesOn : (session : ℕ) → Peer → (bytes : List ℕ) → Gone → Move
@@ -141,33 +174,27 @@ leaving w number peer (Some place) =
     then GoesOn number peer [] (going peer Nothing w.common place.next place.at place.unread)
     else IsIdle number
 
-abbrev pub move : World → Event → Move
-move w (event.Clock reading) = Sets reading
-move w (event.Open number) = opening w number (w.places number)
-move w (event.FromPeer number bytes) = sending w number bytes (w.places number)
-move w (event.Step number) = calling w number One (w.places number)
-move w (event.Run number) = calling w number All (w.places number)
-move w (event.Close number) = leaving w number Closed (w.places number)
-move w (event.Cut number) = leaving w number Failed (w.places number)
+abbrev pub move : World → Doing → Move
+move w (ToSet reading) = Sets reading
+move w (ToOpen number) = opening w number (w.places number)
+move w (ToSend number bytes) = sending w number bytes (w.places number)
+move w (ToCall number calls) = calling w number calls (w.places number)
+move w (ToLeave number peer) = leaving w number peer (w.places number)
+move w (ToIdle number) = IsIdle number
 
--- the world after it, and its text
+-- the world after it, and its lines
 abbrev pub moved : World → Move → Happened
-moved w (Sets reading) = record { world = record w { common = record w.common { clock = reading } }; text = [] }
+moved w (Sets reading) = record { world = record w { common = record w.common { clock = reading } }; session = 0; lines = [] }
 moved w (GoesOn number peer bytes g) = goes w number peer g
 moved w (IsIdle number) = idle w number
 
--- what an event does
-abbrev pub happens : World → Event → Happened
-happens w event = moved w (move w event)
+abbrev pub does : World → Doing → Happened
+does w doing = moved w (move w doing)
 
--- all events, one after another
-abbrev pub after_all : World → List Event → World
+-- all that is done, one after another
+abbrev pub after_all : World → List Doing → World
 after_all w [] = w
-after_all w (first ∷ events) = after_all (happens w first).world events
-
-abbrev pub text_of : World → List Event → List ℕ
-text_of w [] = []
-text_of w (first ∷ events) = (happens w first).text ++ text_of (happens w first).world events
+after_all w (first ∷ doings) = after_all (does w first).world doings
 
 -- ## What the code keeps
 

@@ -9,12 +9,13 @@ ghost use Rattle.session_world.specs.declared.calls.Calls.TheVariants as allowed
 ghost use Rattle.std.specs.Prelude.{◌≡◌, ◌≢◌, ◌≤◌, ◌↔◌, length, IfOk, IsTrue, OnOk};
 
 use crate::calls::Calls;
-use crate::printing::print_end;
-use crate::table::Table;
+use crate::output::Output;
 use crate::turns::{Seat, check_evidence, draw, look, read, settle, settle_locked};
-use lg_base::{Memory, Out};
+use lg_base::Memory;
 use session_talk::Ask;
 use std::alloc::Global;
+use world_table::Table;
+use world_table::printing::print_end;
 
 /// The most turns that a session takes until it reads a packet or rests: it asks at most seven questions between two
 /// packets, and then may be told that no packet comes.
@@ -58,7 +59,7 @@ fn take_turn(
     asks: Ask,
     calls: Calls,
     table: &mut Table,
-    out: &mut Out,
+    out: &mut Output,
 ) -> Result<Turn, Memory>
     requires asked { asks ≡ asked (next_of seat.old.session) (talk_of_session seat.old.session) }
     requires begun { IsBegun (talk_of_session seat.old.session) }
@@ -80,7 +81,7 @@ fn take_turn(
             calls,
         )),
         Ask::Ended(how) => {
-            print_end(out, seat.number, how)?;
+            print_end(&mut out.lines, seat.number, how)?;
             Ok(Turn::Rests(Ask::Ended(how)))
         }
         Ask::Observe(who) => take_call(alloc, seat, Ask::Observe(who), calls, table, out),
@@ -120,7 +121,7 @@ fn take_call(
     asks: Ask,
     calls: Calls,
     table: &mut Table,
-    out: &mut Out,
+    out: &mut Output,
 ) -> Result<Turn, Memory>
     requires asked { asks ≡ asked (next_of seat.old.session) (talk_of_session seat.old.session) }
     requires call { IsCall asks }
@@ -164,7 +165,7 @@ pub fn go_on(
     first: Ask,
     calls: Calls,
     table: &mut Table,
-    out: &mut Out,
+    out: &mut Output,
 ) -> Result<Ask, Memory>
     requires asked { first ≡ asked (next_of seat.old.session) (talk_of_session seat.old.session) }
     requires begun { IsBegun (talk_of_session seat.old.session) }

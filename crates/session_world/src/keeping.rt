@@ -1,24 +1,25 @@
 //! What an event does to a session that is kept.
 
-ghost use Rattle.session_talk.specs.Logins as login;
 ghost use Rattle.session_engine.specs.Standing.{talk_of_session};
+ghost use Rattle.session_talk.specs.Logins as login;
 ghost use Rattle.session_world.specs.Going.{going};
-ghost use Rattle.session_world.specs.Printing.{lines_text};
-ghost use Rattle.session_world.specs.Worlds.{IsAt, Place, is_call, is_open_by, is_there, more_at, no_bytes, place_of, waits};
+ghost use Rattle.session_world.specs.Leading.{with_lines};
+ghost use Rattle.session_world.specs.Worlds.{IsAt, Place, is_call, is_end, is_open_by, is_over, is_there, more_at, no_bytes, place_of, waits};
 ghost use Rattle.session_world.specs.declared.calls.Calls.TheVariants as allowed;
 ghost use Rattle.session_world.specs.declared.calls.Peer.TheVariants as peer;
-ghost use Rattle.std.specs.Prelude.{◌≡◌, ◌++◌, ℕ, IfOk, OnOk};
+ghost use Rattle.std.specs.Prelude.{◌≡◌, ℕ, IfOk, OnOk};
 
 use crate::calls::{Calls, Peer};
 use crate::going::go_on;
 use crate::held::Held;
-use crate::inbox::Inbox;
-use crate::table::Table;
+use crate::output::Output;
 use crate::turns::{Seat, begin};
-use lg_base::{Memory, Out};
+use client_wire::Inbox;
+use lg_base::Memory;
 use session_engine::Session;
 use session_talk::Ask;
 use std::alloc::Global;
+use world_table::Table;
 
 /// A session goes on with what an event allows.
 pub fn go(
@@ -26,11 +27,11 @@ pub fn go(
     held: Held,
     calls: Calls,
     table: &mut Table,
-    out: &mut Out,
+    out: &mut Output,
 ) -> Result<Held, Memory>
     ensures there { (number : ℕ) (place : Place) → IsAt number place held → IfOk result (IsAt number (place_of place.peer (going place.peer calls table.old place.next place.at place.unread))) }
     ensures common { (number : ℕ) (place : Place) → IsAt number place held → OnOk result (table.new ≡ (going place.peer calls table.old place.next place.at place.unread).common) }
-    ensures printed { (number : ℕ) (place : Place) → IsAt number place held → OnOk result (out.new ≡ out.old ++ lines_text number (going place.peer calls table.old place.next place.at place.unread).lines) }
+    ensures printed { (number : ℕ) (place : Place) → IsAt number place held → OnOk result (out.new ≡ with_lines number (going place.peer calls table.old place.next place.at place.unread).lines out.old) }
 {
     let Held { mut seat, asks, .. } = held;
     let asks = go_on(alloc, &mut seat, asks, calls, table, out)?;
@@ -39,10 +40,10 @@ pub fn go(
 
 /// A session whose nonce is drawn and whose greeting is sent.
 #[tactic(auto, using(crate::proofs::Kept::is_begun_of))]
-pub fn open(alloc: Global, number: u32, table: &mut Table, out: &mut Out) -> Result<Held, Memory>
+pub fn open(alloc: Global, number: u32, table: &mut Table, out: &mut Output) -> Result<Held, Memory>
     ensures there { IfOk result (IsAt number (place_of peer.Open (going peer.Open allowed.Nothing table.old 0 (login.session number) no_bytes))) }
     ensures common { OnOk result (table.new ≡ (going peer.Open allowed.Nothing table.old 0 (login.session number) no_bytes).common) }
-    ensures printed { OnOk result (out.new ≡ out.old ++ lines_text number (going peer.Open allowed.Nothing table.old 0 (login.session number) no_bytes).lines) }
+    ensures printed { OnOk result (out.new ≡ with_lines number (going peer.Open allowed.Nothing table.old 0 (login.session number) no_bytes).lines out.old) }
 {
     let mut seat = Seat {
         number,
@@ -113,4 +114,22 @@ pub fn waits_for_call(held: &Held) -> bool
     ensures { result ≡ waits (talk_of_session held.now.seat.session) }
 {
     is_account_call(&held.asks)
+}
+
+/// Whether a session asks for nothing more.
+fn is_end(asks: &Ask) -> bool
+    ensures { result ≡ is_end asks.now }
+{
+    match asks {
+        Ask::Ended(_) => true,
+        _ => false,
+    }
+}
+
+/// Whether a session has ended.
+#[tactic(auto, using(crate::proofs::Kept::over_asked))]
+pub fn has_ended(held: &Held) -> bool
+    ensures { result ≡ is_over (talk_of_session held.now.seat.session) }
+{
+    is_end(&held.asks)
 }

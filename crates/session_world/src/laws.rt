@@ -1,6 +1,11 @@
-//! Laws of worlds. Each function does nothing: its contract is the law.
+//! Laws of replays. Each function does nothing: its contract is the law.
 
-ghost use Rattle.session_world.specs.Transcripts.{HistoriesAreLegal, IdleChangesNothing, SessionsAreTranscripts};
+ghost use Rattle.session_world.specs.Events.{EventsAreDone, HistoriesAreLegal, IdleChangesNothing, RunsComeToRest, SessionsAreTranscripts};
+
+/// What events come to is what they do to the world of sessions, one thing after another.
+pub fn events_are_done()
+    ensures { EventsAreDone }
+{}
 
 /// After any events the history is legal, and its entries are those that are printed.
 pub fn histories_are_legal()
@@ -15,4 +20,9 @@ pub fn sessions_are_transcripts()
 /// An event that prints that it is idle changes nothing.
 pub fn idle_events_change_nothing()
     ensures { IdleChangesNothing }
+{}
+
+/// After a run nothing is left that its session and client could go on with.
+pub fn runs_come_to_rest()
+    ensures { RunsComeToRest }
 {}

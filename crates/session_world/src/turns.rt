@@ -1,27 +1,28 @@
 //! One turn of a session: what it asked for is answered, and what it sends because of that is printed.
 
-ghost use Rattle.account_history.specs.declared.entries.Entry.TheVariants.{Observed};
 ghost use Rattle.session_engine.specs.Standing.{next_of, talk_of_session};
 ghost use Rattle.session_talk.specs.Logins as login;
 ghost use Rattle.session_talk.specs.Turns.{IsAsked, IsBegun, asked, is_answer};
 ghost use Rattle.session_talk.specs.declared.actions.Ask.TheVariants as ask;
-ghost use Rattle.session_world.specs.Going.{Common, spent};
+ghost use Rattle.session_world.specs.Going.{spent};
 ghost use Rattle.session_world.specs.Lasting.{ReadsOrSteps, Steps, StepsOn};
 ghost use Rattle.session_world.specs.Leading.{Acted, IsLookAsked, Leads, Rests};
 ghost use Rattle.session_world.specs.Seats.{SameSeat};
 ghost use Rattle.session_world.specs.declared.calls.Calls.TheVariants as allowed;
 ghost use Rattle.std.specs.Prelude.{◌≡◌, ◌≢◌, ◌≤◌, length, IfOk, IfNone, IfSome, IsTrue, OnOk};
+ghost use Rattle.world_table.specs.Table.{Common};
 
 use crate::calls::{Calls, Peer};
-use crate::inbox::{Found, Inbox};
-use crate::printing::{print_sends, print_stale};
-use crate::table::Table;
+use crate::output::Output;
 use account_history::Who;
+use client_wire::{Found, Inbox};
 use factor_chain::{Checked, Evidences, Look, check};
-use lg_base::{Bytes, Memory, Out};
+use lg_base::{Bytes, Memory};
 use session_engine::Session;
 use session_talk::{Action, Ask, Input};
 use std::alloc::Global;
+use world_table::Table;
+use world_table::printing::print_stale;
 
 /// A session in a world: its number, its peer, and the bytes that it hasn't read.
 #[derive(Drop)]
@@ -32,8 +33,8 @@ pub struct Seat {
     pub inbox: Inbox,
 }
 
-/// Gives a session an input, and prints what it sends because of it. What it asks for next is handed out.
-fn act(session: &mut Session, number: u32, input: Input, out: &mut Out) -> Result<Ask, Memory>
+/// Gives a session an input, and puts out what it sends because of it. What it asks for next is handed out.
+fn act(session: &mut Session, number: u32, input: Input, out: &mut Output) -> Result<Ask, Memory>
     requires answers { IsTrue (is_answer (talk_of_session session.old) input) }
     requires asked { IsAsked (talk_of_session session.old) input }
     ensures acted { OnOk result (Acted number (next_of session.old) (talk_of_session session.old) input out.old out.new (next_of session.new) (talk_of_session session.new)) }
@@ -42,14 +43,19 @@ fn act(session: &mut Session, number: u32, input: Input, out: &mut Out) -> Resul
     ensures begun { OnOk result (IsBegun (talk_of_session session.new)) }
 {
     let Action { first, send, ask } = session.on(input)?;
-    print_sends(out, number, first, send.as_slice())?;
+    out.put_sends(number, first, send.as_slice())?;
     Ok(ask)
 }
 
 /// The session waits for a packet: it is read, or a fault or the peer's end is told. None where there is nothing to
 /// read yet.
 #[tactic(auto, using(crate::proofs::Answering::read_answers, crate::proofs::Giving::free_asked, crate::proofs::Turned::packet_leads, crate::proofs::Turned::fault_leads, crate::proofs::Turned::closed_leads, crate::proofs::Turned::failed_leads, crate::proofs::Turned::waits_rests))]
-pub fn read(alloc: Global, seat: &mut Seat, want: u8, out: &mut Out) -> Result<Option<Ask>, Memory>
+pub fn read(
+    alloc: Global,
+    seat: &mut Seat,
+    want: u8,
+    out: &mut Output,
+) -> Result<Option<Ask>, Memory>
     requires asked { asked (next_of seat.old.session) (talk_of_session seat.old.session) ≡ ask.Read want }
     requires begun { IsBegun (talk_of_session seat.old.session) }
     ensures same { SameSeat seat.old seat.new }
@@ -87,7 +93,7 @@ pub fn read(alloc: Global, seat: &mut Seat, want: u8, out: &mut Out) -> Result<O
 
 /// A new session begins with a nonce that is drawn, and sends its greeting.
 #[tactic(auto, using(crate::proofs::Answering::start_answers, crate::proofs::Giving::free_asked, crate::proofs::Turned::begin_leads))]
-pub fn begin(seat: &mut Seat, table: &mut Table, out: &mut Out) -> Result<Ask, Memory>
+pub fn begin(seat: &mut Seat, table: &mut Table, out: &mut Output) -> Result<Ask, Memory>
     requires { talk_of_session seat.old.session ≡ login.session seat.old.number }
     ensures same { SameSeat seat.old seat.new }
     ensures inbox { seat.new.inbox ≡ seat.old.inbox }
@@ -101,7 +107,7 @@ pub fn begin(seat: &mut Seat, table: &mut Table, out: &mut Out) -> Result<Ask, M
 
 /// The session waits for a nonce, which is drawn.
 #[tactic(auto, using(crate::proofs::Answering::draw_answers, crate::proofs::Giving::free_asked))]
-pub fn draw(seat: &mut Seat, table: &mut Table, out: &mut Out) -> Result<Ask, Memory>
+pub fn draw(seat: &mut Seat, table: &mut Table, out: &mut Output) -> Result<Ask, Memory>
     requires asked { asked (next_of seat.old.session) (talk_of_session seat.old.session) ≡ ask.Draw }
     requires begun { IsBegun (talk_of_session seat.old.session) }
     ensures same { SameSeat seat.old seat.new }
@@ -121,7 +127,7 @@ pub fn check_evidence(
     seat: &mut Seat,
     look: Look,
     evidences: Evidences,
-    out: &mut Out,
+    out: &mut Output,
 ) -> Result<Ask, Memory>
     requires asked { asked (next_of seat.old.session) (talk_of_session seat.old.session) ≡ ask.Check look evidences }
     requires begun { IsBegun (talk_of_session seat.old.session) }
@@ -143,7 +149,7 @@ pub fn look(
     seat: &mut Seat,
     who: &Who,
     table: &mut Table,
-    out: &mut Out,
+    out: &mut Output,
 ) -> Result<Ask, Memory>
     requires asked { IsLookAsked (asked (next_of seat.old.session) (talk_of_session seat.old.session)) who.now }
     requires begun { IsBegun (talk_of_session seat.old.session) }
@@ -154,7 +160,7 @@ pub fn look(
     ensures asks { IfOk result (λ asks. asks ≡ asked (next_of seat.new.session) (talk_of_session seat.new.session)) }
     ensures begun { OnOk result (IsBegun (talk_of_session seat.new.session)) }
 {
-    let look = table.look(alloc, who, out)?;
+    let look = table.look(alloc, who, &mut out.lines)?;
     act(&mut seat.session, seat.number, Input::Looked(look), out)
 }
 
@@ -165,7 +171,7 @@ pub fn settle(
     checked: Checked,
     flags: u32,
     table: &mut Table,
-    out: &mut Out,
+    out: &mut Output,
 ) -> Result<Ask, Memory>
     requires asked { asked (next_of seat.old.session) (talk_of_session seat.old.session) ≡ ask.Settle checked flags }
     requires begun { IsBegun (talk_of_session seat.old.session) }
@@ -177,7 +183,7 @@ pub fn settle(
     ensures begun { OnOk result (IsBegun (talk_of_session seat.new.session)) }
 {
     if table.is_stale(checked.look()) {
-        print_stale(out, seat.number)?;
+        print_stale(&mut out.lines, seat.number)?;
         return act(
             &mut seat.session,
             seat.number,
@@ -189,7 +195,7 @@ pub fn settle(
         checked.look().user.as_slice(),
         checked.evidences(),
         flags,
-        out,
+        &mut out.lines,
     )?;
     act(&mut seat.session, seat.number, Input::Settled(reply), out)
 }
@@ -202,7 +208,7 @@ pub fn settle_locked(
     evidences: &Evidences,
     flags: u32,
     table: &mut Table,
-    out: &mut Out,
+    out: &mut Output,
 ) -> Result<Ask, Memory>
     requires asked { asked (next_of seat.old.session) (talk_of_session seat.old.session) ≡ ask.SettleLocked user.now evidences.now flags }
     requires begun { IsBegun (talk_of_session seat.old.session) }
@@ -213,6 +219,6 @@ pub fn settle_locked(
     ensures asks { IfOk result (λ asks. asks ≡ asked (next_of seat.new.session) (talk_of_session seat.new.session)) }
     ensures begun { OnOk result (IsBegun (talk_of_session seat.new.session)) }
 {
-    let reply = table.settle(user.as_slice(), evidences, flags, out)?;
+    let reply = table.settle(user.as_slice(), evidences, flags, &mut out.lines)?;
     act(&mut seat.session, seat.number, Input::Settled(reply), out)
 }

@@ -1,40 +1,46 @@
 //! A world as a whole: the events of a script happen in it one by one.
 
+ghost use Rattle.script_text.specs.EventLines.{IsEvent};
 ghost use Rattle.script_text.specs.Reading.{IsSetup};
+ghost use Rattle.session_world.specs.Replays.{Replay, happens, new_replay, printed_text};
 ghost use Rattle.session_world.specs.Standing.{HasFailed, Mirrors, last_text};
-ghost use Rattle.session_world.specs.Worlds as world;
-ghost use Rattle.session_world.specs.Worlds.{happens, new_world};
 ghost use Rattle.std.specs.Prelude.{◌≡◌, ◌++◌, IfOk, OnErr, OnOk, IsErr};
 
-use crate::printing::print_last;
+use crate::stage::Stage;
 use crate::state::State;
-use crate::table::Table;
 use lg_base::{Memory, Out};
 use script_text::{Event, Setup};
 use std::alloc::Global;
 use std::collections::BTreeMap;
+use world_table::Table;
+use world_table::printing::print_last;
 
-/// Accounts with their history, a clock, draws, and sessions by their numbers.
+/// Accounts with their history, a clock, draws, and sessions by their numbers, some with a login client.
 #[derive(Drop)]
 pub struct World {
-    state: State,
+    stage: Stage,
     failed: bool,
     alloc: Global,
 }
 
 impl World {
     /// The world of a start, before any event.
+    #[tactic(auto, unfolding(crate::specs::Standing::Mirrors))]
     pub fn new(alloc: Global, setup: &Setup) -> Result<World, Memory>
         requires { IsSetup setup.now }
-        ensures { IfOk result (λ made. Mirrors made (new_world (setup.now).accounts (setup.now).settings)) }
+        ensures { IfOk result (λ made. Mirrors made (new_replay (setup.now).accounts (setup.now).settings)) }
     {
         let table = Table::new(alloc, setup.accounts.as_slice(), setup.settings)?;
         let state = State {
             table,
             sessions: BTreeMap::new(alloc),
         };
-        Ok(World {
+        let stage = Stage {
             state,
+            clients: BTreeMap::new(alloc),
+        };
+        Ok(World {
+            stage,
             failed: false,
             alloc,
         })
@@ -42,10 +48,11 @@ impl World {
 
     /// An event happens, and its lines are added to `out`. After `Memory` no line is added, and the world has failed:
     /// each further event is answered so.
-    #[tactic(auto, unfolding(crate::specs::Standing::HasFailed))]
+    #[tactic(auto, unfolding(crate::specs::Standing::HasFailed, crate::specs::Standing::Mirrors))]
     pub fn step(&mut self, event: &Event, out: &mut Out) -> Result<(), Memory>
-        ensures left { (w : world.World) → Mirrors self.old w → OnOk result (Mirrors self.new (happens w event.now).world) }
-        ensures printed { (w : world.World) → Mirrors self.old w → OnOk result (out.new ≡ out.old ++ (happens w event.now).text) }
+        requires { IsEvent event.now }
+        ensures left { (r : Replay) → Mirrors self.old r → OnOk result (Mirrors self.new (happens r event.now).replay) }
+        ensures printed { (r : Replay) → Mirrors self.old r → OnOk result (out.new ≡ out.old ++ printed_text (happens r event.now).printed) }
         ensures unprinted { OnErr result (out.new ≡ out.old) }
         ensures failed { OnErr result (HasFailed self.new) }
         ensures stays { HasFailed self.old → IsErr result }
@@ -55,19 +62,20 @@ impl World {
         }
         self.failed = true;
         let mut lines = Out::new(self.alloc);
-        self.state.happen(self.alloc, event, &mut lines)?;
+        self.stage.happen(self.alloc, event, &mut lines)?;
         out.bytes(lines.as_slice())?;
         self.failed = false;
         Ok(())
     }
 
     /// Adds the last line: how many entries the history has. After `Memory` nothing is added.
+    #[tactic(auto, unfolding(crate::specs::Standing::Mirrors))]
     pub fn finish(&self, out: &mut Out) -> Result<(), Memory>
-        ensures printed { (w : world.World) → Mirrors self.now w → OnOk result (out.new ≡ out.old ++ last_text w) }
+        ensures printed { (r : Replay) → Mirrors self.now r → OnOk result (out.new ≡ out.old ++ last_text r) }
         ensures unprinted { OnErr result (out.new ≡ out.old) }
     {
         let mut line = Out::new(self.alloc);
-        print_last(&mut line, self.state.table.entries())?;
+        print_last(&mut line, self.stage.state.table.entries())?;
         out.bytes(line.as_slice())
     }
 }

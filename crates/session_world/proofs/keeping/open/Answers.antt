@@ -5,7 +5,7 @@ use Rattle.session_world.specs.Going.{going}
 use Rattle.session_world.specs.Worlds.{IsAt, Place, no_bytes}
 use Rattle.session_world.specs.declared.calls.Calls.TheVariants as allowed
 use Rattle.session_world.specs.declared.calls.Peer.TheVariants as peer
-use Rattle.session_world.specs.Going.{Common}
+use Rattle.world_table.specs.Table.{Common}
 use Rattle.session_world.specs.Leading.{LeadsTo}
 use Rattle.session_world.specs.declared.held.Held.{Held}
 use Rattle.session_world.specs.declared.turns.Seat.{Seat}

@@ -1,5 +1,5 @@
-use Rattle.session_world.proofs.Legally.{histories_are_legal}
+use Rattle.session_world.proofs.Doing.{events_are_legal}
 use Rattle.session_world.proofs.laws.histories_are_legal.Goals as goal
 
 pub returns : goal.returns
-returns c = histories_are_legal
+returns c = events_are_legal

@@ -1,5 +1,5 @@
-use Rattle.session_world.proofs.Following.{sessions_are_transcripts}
+use Rattle.session_world.proofs.Doing.{events_are_transcripts}
 use Rattle.session_world.proofs.laws.sessions_are_transcripts.Goals as goal
 
 pub returns : goal.returns
-returns c = sessions_are_transcripts
+returns c = events_are_transcripts

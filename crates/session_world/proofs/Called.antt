@@ -1,0 +1,69 @@
+-- A session that is answered all its calls of the account store waits for none.
+use Rattle.std.proofs.Common.{◌≡◌, refl, ℕ, ◌+◌, ◌==◌, Bool, true, false, if◌then◌else◌, List, [], Option, Some, None, eq-eqb}
+use Rattle.packet_frame.specs.Front.{Front, Whole, Part, Fault}
+use Rattle.packet_frame.specs.Packets.{id_after}
+use Rattle.packet_frame.specs.declared.packets.FrameFault.{FrameFault}
+use Rattle.packet_frame.specs.declared.packets.FrameFault.TheVariants.{TooLarge, OutOfOrder, Memory as NoMemory}
+use Rattle.account_history.specs.declared.entries.Entry.TheVariants.{Observed}
+use Rattle.session_talk.specs.Talk.{Talk, Says, Hears, Draws, Looks, Checks, Settles, SettlesLocked, Over}
+use Rattle.session_talk.specs.Turns.{faulted, id_behind, wanted}
+use Rattle.session_talk.specs.Wired.{Stream, behind_of, front_of}
+use Rattle.session_world.specs.declared.calls.Calls.TheVariants.{All}
+use Rattle.session_world.specs.declared.calls.Peer.{Peer}
+use Rattle.session_world.specs.declared.calls.Peer.TheVariants.{Open, Closed, Failed}
+use Rattle.session_world.specs.Going.{Gone, by_front, closing, going, unread_by}
+use Rattle.session_world.specs.Worlds.{GoesOn, IsIdle, Place, World, calling, moved, waits, waits_at}
+use Rattle.world_table.specs.Drawing.{drawn_nonce}
+use Rattle.world_table.specs.Table.{Common, attempted, is_stale, replied, seen, with_draw, with_entry}
+use Rattle.session_world.proofs.Idling.{if_is}
+
+abbrev WaitsNot : Gone → Type 0
+WaitsNot g = waits g.at ≡ false
+
+closing_called : (c : Common) (next : ℕ) (fault : FrameFault) (stream : Stream) → WaitsNot (closing c next (faulted fault) stream)
+unfolding closing
+closing_called c next (TooLarge at) stream = refl
+closing_called c next (OutOfOrder at want got) stream = refl
+closing_called c next NoMemory stream = refl
+
+unread_called : (peer : Peer) (c : Common) (next : ℕ) (anew : Bool) (k : List ℕ → Talk) (stream : Stream) → WaitsNot (unread_by peer c next (Hears anew k) stream)
+unread_called Open c next anew k stream = refl
+unread_called Closed c next anew k stream = refl
+unread_called Failed c next anew k stream = refl
+
+going_called : (peer : Peer) (c : Common) (next : ℕ) (t : Talk) (stream : Stream) → WaitsNot (going peer All c next t stream)
+unfolding going
+going_called peer c next (Says payload t) stream = going_called peer c (id_behind next payload) t stream
+going_called peer c next (Hears anew k) stream =
+    by_shown (λ last payload s. going_called peer c (id_after last) (k payload) s) (front_of (wanted anew next) stream)
+  where
+    by_shown : ((last : ℕ) (payload : List ℕ) (s : Stream) → WaitsNot (going peer All c (id_after last) (k payload) s)) → (f : Front) →
+        WaitsNot (by_front (λ last payload behind. going peer All c (id_after last) (k payload) (behind_of stream behind))
+        (unread_by peer c next (Hears anew k) stream) (λ fault. closing c (id_after (wanted anew next)) (faulted fault) stream) f)
+    by_shown again (Whole first last payload behind) = again last payload (behind_of stream behind)
+    by_shown again (Part missing) = unread_called peer c next anew k stream
+    by_shown again (Fault fault) = closing_called c (id_after (wanted anew next)) fault stream
+going_called peer c next (Draws first k) stream = going_called peer (with_draw c) next (k (drawn_nonce (c.drawn + 1))) stream
+going_called peer c next (Looks again who k) stream = going_called peer (with_entry c (Observed who (seen c who))) next (k (seen c who)) stream
+going_called peer c next (Checks look evidences t) stream = going_called peer c next t stream
+going_called peer c next (Settles checked flags stale k) stream =
+    if_is WaitsNot (is_stale c checked.look) _ _ (going_called peer c next stale stream)
+    (going_called peer (with_entry c (attempted c checked.look.user checked.evidences flags)) next (k (replied c checked.look.user checked.evidences flags)) stream)
+going_called peer c next (SettlesLocked user evidences flags k) stream =
+    going_called peer (with_entry c (attempted c user evidences flags)) next (k (replied c user evidences flags)) stream
+going_called peer c next (Over how) stream = refl
+
+here : (test : Bool) (place : Place) (other : Option Place) → test ≡ true → waits place.at ≡ false → waits_at (if test then Some place else other) ≡ false
+here true place other e idle = idle
+here false place other e idle = absurd (cc)
+
+goes_called : (w : World) (number : ℕ) (may : Bool) (peer : Peer) (g : Gone) → may ≡ true → WaitsNot g →
+    waits_at ((moved w (if may then GoesOn number peer [] g else IsIdle number)).world.places number) ≡ false
+goes_called w number true peer g e idle = here (number == number) _ (w.places number) (eq-eqb number number refl) idle
+goes_called w number false peer g e idle = absurd (cc)
+
+pub called : (w : World) (number : ℕ) (found : Option Place) → waits_at found ≡ true →
+    waits_at ((moved w (calling w number All found)).world.places number) ≡ false
+called w number None e = absurd (cc)
+called w number (Some place) e =
+    goes_called w number (waits place.at) place.peer _ e (going_called place.peer w.common place.next place.at place.unread)

@@ -1,0 +1,9 @@
+use Rattle.std.proofs.Common.{refl}
+use Rattle.session_world.proofs.Giving.{on_ok}
+use Rattle.session_world.proofs.Staging.{alters_so}
+use Rattle.session_world.proofs.stage.Stage.cut_off.Goals as goal
+
+pub returns : goal.returns
+returns c r b =
+    on_ok c.keep.result (c.keep.ensures r.clients b.clients)
+    (λ now. alters_so r c.args.number _ _ _ _ _ _ _ b.common b.places now c.cut_off.ensures refl (c.in_ok-print_if_told.ensures {u = tt}))
