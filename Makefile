@@ -1,13 +1,22 @@
-# `make example` builds the proved program and replays an example; `make test` proves and tests all,
-# `make bench` times the built programs beside others, and is for an idle machine.
+# `make example` replays an example before anything is proved; `make build` proves and builds `loginctl`; `make test`
+# proves and tests all; `make times` does so from nothing and tells what each crate takes; `make bench` times the built
+# programs beside others, and is for an idle machine.
 
-.PHONY: example test bench
+.PHONY: example build test times bench
 
 example:
-	@cd crates/loginctl && rt run -- replay < ../../examples/native.script
+	@cd crates/loginctl && rt try -- replay < ../../examples/native.script
+
+build:
+	@cd crates/loginctl && rt run -- frames < /dev/null > /dev/null
+	@echo crates/loginctl/out/loginctl
 
 test:
+	@echo "Proves and tests every crate: from nothing up to an hour on four processors, later what has changed."
 	@.ci/run
+
+times:
+	@tests/times
 
 bench:
 	@cd crates/crypt_probe && rt run < /dev/null

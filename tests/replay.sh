@@ -1,35 +1,83 @@
 #!/usr/bin/env bash
-# Runs the built loginctl on each run of tests/replay: NAME.args has its words on one line, NAME.script is
-# its input, NAME.out what it must print to the byte, and NAME.status its exit status.
-# Then it runs `frames` on streams that are too long to keep, whole pieces of 16,777,215 bytes, and `replay` on scripts
-# that are made here: the longest, one that is too long, one of many accounts, and a login cut at every place.
-# It ends with a line `N passed, M failed`, and fails where a run differs or none was there.
+# Runs the built loginctl, and compares what it prints, to the byte, and its status.
+#
+# Each run of tests/replay is four files: NAME.args has its words on one line, NAME.script is its input, NAME.out what it
+# must print, and NAME.status its exit status. Then come runs that are made here: words and streams of the outside that no
+# file can hold, `frames` on streams that are too long to keep, whole pieces of 16,777,215 bytes, and `replay` on the
+# longest script, one that is too long, one of many accounts, and a login cut at every place.
+#
+# The last line is `N passed, M failed`. The program is built first; where that fails nothing is run. A run of which a file
+# is missing has failed, and so has the whole where no run is stored.
 set -u
 top=$(cd "$(dirname "$0")/.." && pwd) || exit 1
+runs=$top/tests/replay
 program=$top/crates/loginctl/out/loginctl
-if ! (cd "$top/crates/loginctl" && rt run -- frames </dev/null >/dev/null 2>&1) && [ ! -x "$program" ]; then
-  echo "no built program $program"
+folder=$(mktemp -d) || exit 1
+trap 'rm -rf "$folder"' EXIT
+printed=$folder/printed
+expected=$folder/expected
+passed=0
+failed=0
+
+fails() {
+  failed=$((failed + 1))
+  echo "$1"
+}
+
+if ! (cd "$top/crates/loginctl" && rt run -- frames </dev/null) >"$folder/built" 2>&1; then
+  cat "$folder/built"
+  echo "loginctl can't be built"
   echo "0 passed, 1 failed"
   exit 1
 fi
-passed=0
-failed=0
-printed=$(mktemp) || exit 1
-expected=$(mktemp) || exit 1
-trap 'rm -f "$printed" "$expected"' EXIT
-for out in "$top"/tests/replay/*.out; do
-  [ -e "$out" ] || continue
-  run=${out%.out}
-  read -r -a words <"$run.args" || true
-  "$program" ${words[@]+"${words[@]}"} <"$run.script" >"$printed"
-  status=$?
-  if [ "$status" = "$(cat "$run.status")" ] && cmp -s "$printed" "$out"; then
-    passed=$((passed + 1))
+
+# Compares the status and what was printed with what they must be: judge NAME STATUS WANTED-STATUS WANTED-FILE
+judge() {
+  if [ "$2" != "$3" ]; then
+    fails "differs: $1, status $2 in place of $3"
+  elif ! cmp -s "$printed" "$4"; then
+    fails "differs: $1, in what is printed"
   else
-    failed=$((failed + 1))
-    echo "differs: $(basename "$run"), status $status"
+    passed=$((passed + 1))
   fi
+}
+
+# Runs the program on the standard input, and judges what it prints: prints NAME WANTED-STATUS WANTED-FILE WORD..
+prints() {
+  local name=$1 wanted=$2 file=$3
+  shift 3
+  timeout 60 "$program" "$@" >"$printed"
+  judge "$name" $? "$wanted" "$file"
+}
+
+stored=0
+for file in "$runs"/*.*; do
+  run=${file%.*}
+  [ "$file" = "$run.script" ] || [ -e "$run.script" ] || fails "no input: $(basename "$file")"
+  [ "$file" = "$run.script" ] || continue
+  stored=$((stored + 1))
+  if ! [ -e "$run.args" ] || ! [ -e "$run.out" ] || ! [ -e "$run.status" ]; then
+    fails "not whole: $(basename "$run")"
+    continue
+  fi
+  words=()
+  read -r -a words <"$run.args"
+  prints "$(basename "$run")" "$(cat "$run.status")" "$run.out" ${words[@]+"${words[@]}"} <"$file"
 done
+[ "$stored" -gt 0 ] || fails "no stored run in $runs"
+
+# Words and streams that no stored run can have.
+prints word-that-is-not-text 2 "$runs/no-words.out" login --socket none --user $'nat\xff' </dev/null
+echo linkfault >"$expected"
+prints no-server 4 "$expected" login --socket "$folder/none" --user nat </dev/null
+: >"$expected"
+prints input-that-fails 4 "$expected" replay <"$folder"
+"$program" replay <"$runs/empty.script" >/dev/full
+: >"$printed"
+judge output-that-is-full $? 5 "$expected"
+"$program" login --socket "$folder/none" --user nat </dev/null >/dev/full
+: >"$printed"
+judge login-with-a-full-output $? 5 "$expected"
 
 # Prints a header and that many zero bytes: piece LENGTH ID, the length in six hexadecimal digits, low first.
 piece() {
@@ -37,19 +85,12 @@ piece() {
   head -c $((16#${1:4:2}${1:2:2}${1:0:2})) /dev/zero
 }
 
-# Compares what `frames` prints of the standard input: frames_prints NAME STATUS LINE..
+# Judges what `frames` prints of the standard input: frames_prints NAME STATUS LINE..
 frames_prints() {
-  local name=$1 wanted=$2 status
+  local name=$1 wanted=$2
   shift 2
   printf '%s\n' "$@" >"$expected"
-  "$program" frames >"$printed"
-  status=$?
-  if [ "$status" = "$wanted" ] && cmp -s "$printed" "$expected"; then
-    passed=$((passed + 1))
-  else
-    failed=$((failed + 1))
-    echo "differs: $name, status $status"
-  fi
+  prints "$name" "$wanted" "$expected" frames
 }
 
 frames_prints frames-whole-piece 0 'packet 1 at 0 seq 0 length 16777215' 'end 1' \
@@ -63,18 +104,6 @@ frames_prints frames-too-large 3 'packet 1 at 0 seq 9 length 1' 'bad packet at 5
   < <(piece 010000 09; piece ffffff 00; piece ffffff 01; piece ffffff 02; piece 010000 03)
 frames_prints frames-cut-in-second-piece 3 'packet 1 at 0 seq 9 length 1' 'bad packet at 5' \
   < <(piece 010000 09; piece ffffff 00; printf '\x00\x00')
-# Compares what `replay` prints of the standard input: replay_prints NAME STATUS FILE
-replay_prints() {
-  local status
-  timeout 60 "$program" replay >"$printed"
-  status=$?
-  if [ "$status" = "$2" ] && cmp -s "$printed" "$3"; then
-    passed=$((passed + 1))
-  else
-    failed=$((failed + 1))
-    echo "differs: $1, status $status"
-  fi
-}
 
 # A script of so many bytes: a line that says nothing, and `end`.
 filled() {
@@ -84,9 +113,9 @@ filled() {
 }
 
 echo 'end 0' >"$expected"
-replay_prints longest-script 0 "$expected" < <(filled 16777216)
+prints longest-script 0 "$expected" replay < <(filled 16777216)
 echo 'bad line 0' >"$expected"
-replay_prints too-long-script 3 "$expected" < <(filled 16777217)
+prints too-long-script 3 "$expected" replay < <(filled 16777217)
 
 # 20,000 accounts with users of five digits, and the last of them logs in with an empty answer, for an empty password
 accounts() {
@@ -96,17 +125,18 @@ accounts() {
     006d7973716c5f6e61746976655f70617373776f726400
 }
 {
-  head -n 1 "$top/tests/replay/empty.out"
+  head -n 1 "$runs/empty.out"
   printf 'entry 1 observe 3230303030\nentry 2 attempt 3230303030 opened\nsend 1 2 00000002000000\nend 2\n'
 } >"$expected"
-replay_prints many-accounts 0 "$expected" < <(accounts)
+prints many-accounts 0 "$expected" replay < <(accounts)
 
 # The bytes of a login in two pieces, cut at every place.
-bytes=$(sed -n 's/^bytes 1 //p' "$top/tests/replay/empty.script")
+bytes=$(sed -n 's/^bytes 1 //p' "$runs/empty.script")
+[ ${#bytes} -gt 2 ] || fails "no line 'bytes 1' to cut in empty.script"
 for ((cut = 2; cut < ${#bytes}; cut += 2)); do
-  replay_prints "cut-at-$((cut / 2))" 0 "$top/tests/replay/empty.out" \
-    < <(sed "s/^bytes 1 .*/bytes 1 ${bytes:0:cut}\nbytes 1 ${bytes:cut}/" "$top/tests/replay/empty.script")
+  prints "cut-at-$((cut / 2))" 0 "$runs/empty.out" replay \
+    < <(sed "s/^bytes 1 .*/bytes 1 ${bytes:0:cut}\nbytes 1 ${bytes:cut}/" "$runs/empty.script")
 done
-[ $((passed + failed)) -gt 0 ] || failed=1
+
 echo "$passed passed, $failed failed"
 [ "$failed" = 0 ]

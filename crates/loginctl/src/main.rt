@@ -20,14 +20,32 @@ use lg_outside::{StdSink, StdSource, UnixLink};
 use std::process::ExitCode;
 use std::{env, io};
 
-fn main(rt: HostRuntime) -> io::Result<ExitCode> {
-    let alloc = rt.alloc();
-    let words: Vec<String> = env::args(&rt)?.skip(1).collect(alloc)?;
+/// The words behind the program's name. Where one of them isn't UTF-8 there are none, so that the command line is
+/// of no form.
+fn read_words(rt: &HostRuntime) -> io::Result<Vec<String>> {
+    match env::args(rt) {
+        Ok(words) => Ok(words.skip(1).collect(rt.alloc())?),
+        Err(fault) if fault.kind() == io::ErrorKind::InvalidData => Ok(Vec::new(rt.alloc())),
+        Err(fault) => Err(fault),
+    }
+}
+
+fn main(rt: HostRuntime) -> ExitCode {
+    // The words are read into memory, so they can't be had only where memory is wanting.
+    let Ok(words) = read_words(&rt) else {
+        return ExitCode::from(6);
+    };
     let mut input = StdSource::new(rt.stdin());
     let mut out = StdSink::new(rt.stdout());
     let mut link = UnixLink::new(&rt);
-    let status = tool::run_tool(alloc, words.as_slice(), &mut input, &mut out, &mut link);
-    Ok(ExitCode::from(status))
+    let status = tool::run_tool(
+        rt.alloc(),
+        words.as_slice(),
+        &mut input,
+        &mut out,
+        &mut link,
+    );
+    ExitCode::from(status)
 }
 
 #[cfg(test)]
