@@ -2,7 +2,7 @@
 use Rattle.std.proofs.Common.{◌≡◌, refl, ap, sym, ◌∙◌, ℕ, Bool, List, [], ◌∷◌, ◌++◌, Option, Some, None, IfSome, append_assoc}
 use Rattle.packet_stream.specs.Sent.{id_behind}
 use Rattle.packet_stream.specs.Streams.{Stream, with_more}
-use Rattle.interaction.specs.Driving.{Driven, Leads}
+use Rattle.interaction.specs.Driving.{Arrived, Leads}
 use Rattle.interaction.specs.Handlers.{Open, OverBytes, Peer, of_bytes, over_bytes, read_bytes, read_with}
 use Rattle.interaction.specs.Laws.{DriversKeepTheRun}
 use Rattle.interaction.specs.Runs.{Answers, Event, Own, Ran, Read, Reads, Sends, after, after_all, by_read, run, stops, wanted}
@@ -18,7 +18,7 @@ module _ {Question Answer Entry End : Type 0} where
       after_all did (after event r) ≡ after_all (did ++ event ∷ []) r
   after_one did event r = ap (λ (all : List (Event Question Answer Entry)). record r { did = all }) (sym (append_assoc did (event ∷ []) r.did))
 
-  module _ (b : Driven Question Answer Entry End) (now : Ran Stream Question Answer Entry End) where
+  module _ (b : Arrived Question Answer Entry End) (now : Ran Stream Question Answer Entry End) where
     -- the run from here, where the talk stands so
     abbrev from_here : Peer → List ℕ → List (Own Answer Entry) → Talk Question Answer End → Ran (OverBytes Answer Entry) Question Answer Entry End
     from_here peer more others t = after_all now.did (run (over_bytes peer) (of_bytes (with_more now.state more) others) now.next t)

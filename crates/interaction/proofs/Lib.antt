@@ -5,3 +5,4 @@ pub mod Owing
 pub mod Turning
 pub mod Driving
 pub mod Keeping
+pub mod Using

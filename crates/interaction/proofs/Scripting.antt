@@ -2,7 +2,7 @@
 use Rattle.std.proofs.Common.{◌≡◌, refl, ap, sym, ◌∙◌, ℕ, Bool, List, [], ◌++◌, Option, Some, None, IfSome}
 use Rattle.packet_stream.specs.Sent.{id_behind}
 use Rattle.packet_stream.specs.Streams.{Stream, with_more}
-use Rattle.interaction.specs.Driving.{Driven, HasCome}
+use Rattle.interaction.specs.Driving.{Arrived, HasCome}
 use Rattle.interaction.specs.Events.{owns_of, script_of}
 use Rattle.interaction.specs.Handlers.{Open, OverBytes, Peer, of_bytes, over_bytes, read_bytes, read_with, scripted, with_both, with_owns}
 use Rattle.interaction.specs.Laws.{ReadsBytes, WhatHasComeGoesFurther}
@@ -84,7 +84,7 @@ module _ {State Question Answer Entry End : Type 0} (h : Handler State Question 
 
   -- ## What has come goes further
 
-  further : (b : Driven Question Answer Entry End) (before : Ran Stream Question Answer Entry End) (s : State) (begin : OverBytes Answer Entry) (stream : Stream) →
+  further : (b : Arrived Question Answer Entry End) (before : Ran Stream Question Answer Entry End) (s : State) (begin : OverBytes Answer Entry) (stream : Stream) →
       stream_of s ≡ stream →
       let r = run h s before.next before.at in
       run (over_bytes peer) begin b.next b.at ≡ after_all before.did (run (over_bytes peer) (of_bytes stream (owns_of r.did)) before.next before.at) →
@@ -95,7 +95,7 @@ module _ {State Question Answer Entry End : Type 0} (h : Handler State Question 
       ∙ (ap (λ left. after_all before.did (run (over_bytes peer) (of_bytes left owns) before.next before.at)) (sym e)
       ∙ ap (after_all before.did) (runs_are_over_bytes s before.next before.at))
 
-  pub with_bytes : (b : Driven Question Answer Entry End) (before : Ran Stream Question Answer Entry End) (more : List ℕ) (s : State) →
+  pub with_bytes : (b : Arrived Question Answer Entry End) (before : Ran Stream Question Answer Entry End) (more : List ℕ) (s : State) →
       HasCome Open b before → stream_of s ≡ with_more before.state more →
       let r = run h s before.next before.at in
       HasCome peer (record { stream = with_more b.stream more; owns = b.owns ++ owns_of r.did; next = b.next; at = b.at })
@@ -106,7 +106,7 @@ module _ {State Question Answer Entry End : Type 0} (h : Handler State Question 
       (cutting_changes_nothing peer more owns (of_bytes b.stream b.owns) b.next b.at
       ∙ ap (λ r. after_all r.did (run (over_bytes peer) (with_both more owns r.state) r.next r.at)) come)
 
-  pub without : (b : Driven Question Answer Entry End) (before : Ran Stream Question Answer Entry End) (s : State) →
+  pub without : (b : Arrived Question Answer Entry End) (before : Ran Stream Question Answer Entry End) (s : State) →
       HasCome peer b before → stream_of s ≡ before.state →
       let r = run h s before.next before.at in
       HasCome peer (record { stream = b.stream; owns = b.owns ++ owns_of r.did; next = b.next; at = b.at })

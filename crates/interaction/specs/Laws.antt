@@ -2,9 +2,9 @@
 use Rattle.std.specs.Prelude.{◌≡◌, ◌<◌, ℕ, Bool, List, [], ◌∷◌, ◌++◌, Some, IfSome}
 use Rattle.packet_stream.specs.Sent.{id_behind}
 use Rattle.packet_stream.specs.Streams.{Stream, with_more}
-use Rattle.interaction.specs.Driving.{Driven, HasCome, Leads}
-use Rattle.interaction.specs.Events.{owns_of, packets_in, script_of, until_unread}
-use Rattle.interaction.specs.Handlers.{Open, OverBytes, Peer, answered_with, of_bytes, over_bytes, owed, read_bytes, read_with, scripted, with_both, with_owns}
+use Rattle.interaction.specs.Driving.{Arrived, HasCome, Leads}
+use Rattle.interaction.specs.Events.{Given, Received, owns_of, packets_in, script_of, until_unread}
+use Rattle.interaction.specs.Handlers.{Open, OverBytes, Peer, answered_with, of_bytes, of_packets, over_bytes, owed, read_bytes, read_with, scripted, with_both, with_owns}
 use Rattle.interaction.specs.Runs.{Answers, Handler, Own, Ran, Reads, Sends, after_all, run, stops, wanted}
 use Rattle.interaction.specs.Talk.{Reading, Talk, Says, Hears, Asks}
 use Rattle.interaction.specs.Turns.{HasNothing, IsAtRest, Within, by_turn, left_behind, turn}
@@ -73,25 +73,41 @@ RunsAreOverBytes State Question Answer Entry End =
 pub record WhatHasComeGoesFurther (State Question Answer Entry End : Type 0) : Type 0 where
   pub with_bytes : (h : Handler State Question Answer Entry) (peer : Peer) (stream_of : State → Stream) →
       ReadsBytes State Question Answer Entry h peer stream_of →
-      (b : Driven Question Answer Entry End) (before : Ran Stream Question Answer Entry End) (more : List ℕ) (s : State) →
+      (b : Arrived Question Answer Entry End) (before : Ran Stream Question Answer Entry End) (more : List ℕ) (s : State) →
       HasCome Open b before → stream_of s ≡ with_more before.state more →
       let r = run h s before.next before.at in
       HasCome peer (record { stream = with_more b.stream more; owns = b.owns ++ owns_of r.did; next = b.next; at = b.at })
       (record { did = before.did ++ r.did; state = stream_of r.state; next = r.next; at = r.at })
   pub without : (h : Handler State Question Answer Entry) (peer : Peer) (stream_of : State → Stream) →
       ReadsBytes State Question Answer Entry h peer stream_of →
-      (b : Driven Question Answer Entry End) (before : Ran Stream Question Answer Entry End) (s : State) →
+      (b : Arrived Question Answer Entry End) (before : Ran Stream Question Answer Entry End) (s : State) →
       HasCome peer b before → stream_of s ≡ before.state →
       let r = run h s before.next before.at in
       HasCome peer (record { stream = b.stream; owns = b.owns ++ owns_of r.did; next = b.next; at = b.at })
       (record { did = before.did ++ r.did; state = stream_of r.state; next = r.next; at = r.at })
 
--- What is done until reading ends is owed for the packets that were received and the answers until then.
-abbrev pub RunsAreOwed : (State Question Answer Entry End : Type 0) → Type 0
-RunsAreOwed State Question Answer Entry End =
-    (h : Handler State Question Answer Entry) (s : State) (next : ℕ) (t : Talk Question Answer End) →
-    let before = until_unread (run h s next t).did in
-    (owed (packets_in before) (owns_of before) next t).did ≡ before
+-- What is done until reading ends is owed for the packets that were received and the answers until then. Where reading
+-- hasn't ended, that is the whole run, and all of them are used.
+pub record RunsAreOwed (State Question Answer Entry End : Type 0) : Type 0 where
+  pub until : (h : Handler State Question Answer Entry) (s : State) (next : ℕ) (t : Talk Question Answer End) →
+      let before = until_unread (run h s next t).did in
+      (owed (packets_in before) (owns_of before) next t).did ≡ before
+  pub whole : (h : Handler State Question Answer Entry) (s : State) (next : ℕ) (t : Talk Question Answer End) →
+      let r = run h s next t in
+      until_unread r.did ≡ r.did →
+      owed (packets_in r.did) (owns_of r.did) next t ≡ record { did = r.did; state = of_packets [] []; next = r.next; at = r.at }
+
+-- What stands in lists is used in order, from the front: of a script, of packets and answers, and of answers beside bytes.
+pub record ListsAreUsedInOrder (Question Answer Entry End : Type 0) : Type 0 where
+  pub script : (given : List (Given Answer Entry)) (next : ℕ) (t : Talk Question Answer End) →
+      let r = run scripted given next t in
+      given ≡ script_of r.did ++ r.state
+  pub packets : (packets : List Received) (owns : List (Own Answer Entry)) (next : ℕ) (t : Talk Question Answer End) →
+      let r = owed packets owns next t in
+      (packets ≡ packets_in r.did ++ r.state.packets) × (owns ≡ owns_of r.did ++ r.state.owns)
+  pub answers : (peer : Peer) (stream : Stream) (owns : List (Own Answer Entry)) (next : ℕ) (t : Talk Question Answer End) →
+      let r = run (over_bytes peer) (of_bytes stream owns) next t in
+      owns ≡ owns_of r.did ++ r.state.owns
 
 -- ## A run stops, and goes by turns
 
@@ -122,7 +138,7 @@ TurnsAreTaken State Question Answer Entry End =
 pub record DriversKeepTheRun (Question Answer Entry End : Type 0) : Type 0 where
   pub begins : (stream : Stream) (next : ℕ) (t : Talk Question Answer End) →
       Leads {Entry = Entry} (record { stream = stream; owns = []; next = next; at = t }) (stops stream next t)
-  pub says : (b : Driven Question Answer Entry End) (now : Ran Stream Question Answer Entry End) (payload : List ℕ) (t : Talk Question Answer End) →
+  pub says : (b : Arrived Question Answer Entry End) (now : Ran Stream Question Answer Entry End) (payload : List ℕ) (t : Talk Question Answer End) →
       now.at ≡ Says payload t → Leads b now →
       Leads b (record {
         did = now.did ++ Sends (record { first = now.next; payload = payload }) ∷ [];
@@ -130,12 +146,12 @@ pub record DriversKeepTheRun (Question Answer Entry End : Type 0) : Type 0 where
         next = id_behind now.next payload;
         at = t;
       })
-  pub answers : (b : Driven Question Answer Entry End) (now : Ran Stream Question Answer Entry End) (question : Question) (k : Answer → Talk Question Answer End)
+  pub answers : (b : Arrived Question Answer Entry End) (now : Ran Stream Question Answer Entry End) (question : Question) (k : Answer → Talk Question Answer End)
       (own : Own Answer Entry) →
       now.at ≡ Asks question k → Leads b now →
       Leads (record { stream = b.stream; owns = b.owns ++ own ∷ []; next = b.next; at = b.at })
       (record { did = now.did ++ Answers question own ∷ []; state = now.state; next = now.next; at = k own.given })
-  pub reads : (b : Driven Question Answer Entry End) (now : Ran Stream Question Answer Entry End) (anew : Bool) (k : Reading → Talk Question Answer End) →
+  pub reads : (b : Arrived Question Answer Entry End) (now : Ran Stream Question Answer Entry End) (anew : Bool) (k : Reading → Talk Question Answer End) →
       now.at ≡ Hears anew k → Leads b now →
       IfSome (read_bytes Open now.next (wanted anew now.next) now.state) (λ read. Leads b (record {
         did = now.did ++ Reads (wanted anew now.next) read.given read.next ∷ [];
@@ -143,6 +159,6 @@ pub record DriversKeepTheRun (Question Answer Entry End : Type 0) : Type 0 where
         next = read.next;
         at = k read.given;
       }))
-  pub gets : (b : Driven Question Answer Entry End) (now : Ran Stream Question Answer Entry End) (more : List ℕ) → Leads b now →
+  pub gets : (b : Arrived Question Answer Entry End) (now : Ran Stream Question Answer Entry End) (more : List ℕ) → Leads b now →
       Leads (record { stream = with_more b.stream more; owns = b.owns; next = b.next; at = b.at })
       (record { did = now.did; state = with_more now.state more; next = now.next; at = now.at })

@@ -1,6 +1,6 @@
 //! Laws of every talk, over every handler. Each function does nothing: its contract is the law.
 
-ghost use Rattle.interaction.specs.Laws.{AnswersChangeNothing, CuttingChangesNothing, DriversKeepTheRun, RunsAreOverBytes, RunsAreOwed, RunsAreScripted, RunsGoByTurns, RunsGoOn, RunsStop, TurnsAreTaken, WhatHasComeGoesFurther};
+ghost use Rattle.interaction.specs.Laws.{AnswersChangeNothing, CuttingChangesNothing, DriversKeepTheRun, ListsAreUsedInOrder, RunsAreOverBytes, RunsAreOwed, RunsAreScripted, RunsGoByTurns, RunsGoOn, RunsStop, TurnsAreTaken, WhatHasComeGoesFurther};
 
 /// A run goes on: where a handler gives what another gave and then more, it is the run before, and the run from where
 /// that stood.
@@ -41,10 +41,17 @@ pub fn what_has_come_goes_further<State, Question, Answer, Entry, End>()
     ensures { WhatHasComeGoesFurther State Question Answer Entry End }
 {}
 
-/// What is done until reading ends is owed for the packets that were received and the answers until then.
+/// What is done until reading ends is owed for the packets that were received and the answers until then. Where reading
+/// hasn't ended, that is the whole run, and all of them are used.
 #[tactic(auto, using(crate::proofs::Owing::runs_are_owed))]
 pub fn runs_are_owed<State, Question, Answer, Entry, End>()
     ensures { RunsAreOwed State Question Answer Entry End }
+{}
+
+/// What stands in lists is used in order, from the front: of a script, of packets and answers, and of answers beside bytes.
+#[tactic(auto, using(crate::proofs::Using::lists_are_used_in_order))]
+pub fn lists_are_used_in_order<Question, Answer, Entry, End>()
+    ensures { ListsAreUsedInOrder Question Answer Entry End }
 {}
 
 /// A run stops where the talk has ended, or waits for what the handler doesn't have.
