@@ -18,7 +18,7 @@ use Rattle.session_talk.specs.Logins.{answering, attempt_of, caching, claim_of, 
 use Rattle.session_talk.specs.Owed.{Own, Drew, Saw, Late, Did, owed}
 use Rattle.session_talk.specs.Talk.{Talk, Says, Hears, Draws, Looks, Checks, Settles, SettlesLocked, Over}
 use Rattle.session_talk.specs.Texts.{days_of, greeting_of}
-use Rattle.session_talk.specs.Turns.{id_behind}
+use Rattle.packet_stream.specs.Sent.{id_behind}
 use Rattle.session_talk.specs.declared.attempts.Attempting.{Attempting}
 use Rattle.session_talk.specs.declared.attempts.Claim as said
 use Rattle.login_client.specs.Conversation as client-talk

@@ -8,13 +8,15 @@ use Rattle.packet_frame.specs.declared.packets.FrameFault.TheVariants.{TooLarge,
 use Rattle.packet_frame.specs.declared.packets.Packet.{Packet}
 use Rattle.account_history.specs.declared.entries.Entry.{Entry}
 use Rattle.session_talk.specs.Logins.{session}
-use Rattle.session_talk.specs.Owed.{Own, Drew, Saw, Late, Did, Owed, Sent, owed}
+use Rattle.session_talk.specs.Owed.{Own, Drew, Saw, Late, Did, Owed, owed}
+use Rattle.packet_stream.specs.Sent.{Sent, id_behind}
 use Rattle.session_talk.specs.Talk.{Talk, Says, Hears, Draws, Looks, Checks, Settles, SettlesLocked}
 use Rattle.session_talk.specs.Texts.{error_payload}
 use Rattle.session_talk.specs.Transcript.{Enters, Peer, Transcript, fault_at, read_of, told_fault, wanted_at}
-use Rattle.session_talk.specs.Turns.{faulted, id_behind}
+use Rattle.session_talk.specs.Turns.{faulted}
 use Rattle.packet_frame.specs.Packets.{id_after}
-use Rattle.session_talk.specs.Wired.{Stream, said_from}
+use Rattle.session_talk.specs.Wired.{said_from}
+use Rattle.packet_stream.specs.Streams.{Stream}
 use Rattle.session_talk.specs.declared.ends.SessionEnd.{SessionEnd}
 use Rattle.session_talk.proofs.Tying.{wired_is_owed}
 use Rattle.both_ends.specs.Meeting.{first_entered, first_reply, payloads_of, sent_by}

@@ -22,7 +22,7 @@ use Rattle.session_talk.specs.Logins.{all_commands, answering, attempt_of, cachi
 use Rattle.session_talk.specs.Owed.{Own, Drew, Saw, Late, Did, owed}
 use Rattle.session_talk.specs.Talk.{Talk, Says, Hears, Draws, Looks, Checks, Settles, SettlesLocked, Over}
 use Rattle.session_talk.specs.Texts.{error_payload, fast_payload, full_payload, greeting_payload, ok_payload, switch_payload}
-use Rattle.session_talk.specs.Turns.{id_behind}
+use Rattle.packet_stream.specs.Sent.{id_behind}
 use Rattle.session_talk.specs.declared.attempts.Attempting.{Attempting}
 use Rattle.session_talk.specs.declared.attempts.Claim.{Claim}
 use Rattle.both_ends.specs.Meeting.{Opens, first_reply, payloads_of}

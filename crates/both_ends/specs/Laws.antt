@@ -7,7 +7,8 @@ use Rattle.packet_frame.specs.declared.packets.Packet.{Packet}
 use Rattle.account_history.specs.declared.entries.Entry.{Entry}
 use Rattle.account_history.specs.declared.entries.Reply.{Reply}
 use Rattle.session_talk.specs.Logins.{session}
-use Rattle.session_talk.specs.Owed.{Own, Sent, owed}
+use Rattle.session_talk.specs.Owed.{Own, owed}
+use Rattle.packet_stream.specs.Sent.{Sent}
 use Rattle.session_talk.specs.Transcript.{Peer, Transcript}
 use Rattle.session_talk.specs.declared.ends.SessionEnd.{SessionEnd}
 use Rattle.session_talk.specs.Texts.{error_payload, fast_payload, full_payload, greeting_of, greeting_payload, method_name, ok_payload, switch_payload}

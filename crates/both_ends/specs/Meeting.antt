@@ -8,7 +8,8 @@ use Rattle.account_history.specs.declared.entries.Entry.TheVariants.{Attempted}
 use Rattle.account_history.specs.declared.entries.Reply.{Reply}
 use Rattle.account_history.specs.declared.entries.Reply.TheVariants.{Opened, Sandbox, Blocked, Denied, Locked, MustChange}
 use Rattle.session_talk.specs.Logins.{session}
-use Rattle.session_talk.specs.Owed.{Own, Drew, Did, Sent, owed}
+use Rattle.session_talk.specs.Owed.{Own, Drew, Did, owed}
+use Rattle.packet_stream.specs.Sent.{Sent}
 use Rattle.session_talk.specs.Texts.{error_payload, ok_payload}
 use Rattle.login_client.specs.Conversation.{ClientTalk}
 use Rattle.login_client.specs.declared.claims.Claim.{Claim}

@@ -8,8 +8,9 @@ use Rattle.packet_frame.specs.Packets.{IsUnfinished, id_after}
 use Rattle.packet_frame.specs.Streams.{Between, Cut, Faulty}
 use Rattle.packet_frame.specs.declared.packets.Want.TheVariants.{Exactly}
 use Rattle.packet_frame.proofs.Shown.{front-stands}
-use Rattle.session_talk.specs.Turns.{id_behind}
-use Rattle.session_talk.specs.Wired.{Stream, behind_of, front_of, most_payload}
+use Rattle.packet_stream.specs.Sent.{id_behind}
+use Rattle.packet_stream.specs.Streams.{Stream, behind_of, front_of}
+use Rattle.packet_stream.specs.declared.limits.TheConstants.{MAX_PAYLOAD}
 use Rattle.login_client.specs.Exchange as exchange
 use Rattle.login_client.specs.Exchange.{Ends, IsExchange, Stand, Waits}
 use Rattle.login_client.specs.Heard.{heard_of}
@@ -19,9 +20,9 @@ use Rattle.login_client.proofs.HeardOf.{heard_of_is}
 use Rattle.client_wire.specs.Getting.{Got, after_written, getting, rests}
 use Rattle.client_wire.specs.Laws as laws
 use Rattle.client_wire.specs.Laws.{ComesTo, GettingIsExchange}
-use Rattle.client_wire.specs.Packing.{packet_text}
+use Rattle.packet_stream.specs.Packing.{packet_text}
 use Rattle.client_wire.proofs.Fronted.{at_front}
-use Rattle.client_wire.proofs.Packed.{text_is_packet}
+use Rattle.packet_stream.proofs.Packed.{text_is_packet}
 
 abbrev Below : List ℕ → Type 0
 Below bytes = All (λ x. x < 256) bytes
@@ -38,7 +39,7 @@ behind_below bytes head behind split below =
 
 module _ (next : ℕ) (k : Heard → Talk) (stream : Stream) where
   abbrev Shows : Front → Type 0
-  Shows f = IsFront most_payload (Exactly next) stream.place stream.bytes f
+  Shows f = IsFront MAX_PAYLOAD (Exactly next) stream.place stream.bytes f
 
   abbrev Again : Type 0
   Again = (last : ℕ) (payload : List ℕ) (s : Stream) → Below s.bytes → Comes (id_after last) (k (heard_of payload)) s (getting (id_after last) (k (heard_of payload)) s)
@@ -65,7 +66,7 @@ module _ (next : ℕ) (k : Heard → Talk) (stream : Stream) where
       with_head (laws.waits ending opened waiting went) = laws.waits ending opened waiting (hears behind (Waits ending) went)
 
   -- less than a packet
-  waits_at : (missing : ℕ) (bytes : List ℕ) → IsUnfinished most_payload (Exactly next) missing bytes → ComesTo (Hears k) next stream.place bytes (rests next (Hears k) stream)
+  waits_at : (missing : ℕ) (bytes : List ℕ) → IsUnfinished MAX_PAYLOAD (Exactly next) missing bytes → ComesTo (Hears k) next stream.place bytes (rests next (Hears k) stream)
   waits_at missing [] part = laws.waits Between tt tt (exchange.waits k next stream.place [] Between refl)
   waits_at missing (x ∷ xs) part =
       laws.waits (Cut stream.place) tt tt (exchange.waits k next stream.place (x ∷ xs) (Cut stream.place) ((λ none. cc), refl, missing, part))
@@ -79,7 +80,7 @@ module _ (next : ℕ) (k : Heard → Talk) (stream : Stream) where
       laws.faults fault refl (exchange.waits k next stream.place stream.bytes (Faulty fault) shown)
 
   pub hears_comes : Again → Below stream.bytes → Comes next (Hears k) stream (at_front next k stream (front_of next stream))
-  hears_comes again below = by_shown again below (front_of next stream) (front-stands most_payload (Exactly next) stream.place stream.bytes below)
+  hears_comes again below = by_shown again below (front_of next stream) (front-stands MAX_PAYLOAD (Exactly next) stream.place stream.bytes below)
 
 -- ## A talk that says
 

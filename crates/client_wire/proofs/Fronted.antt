@@ -3,12 +3,12 @@ use Rattle.std.proofs.Common.{◌≡◌, ap, ℕ, List}
 use Rattle.packet_frame.specs.Front.{Front, Whole, Part, Fault}
 use Rattle.packet_frame.specs.Packets.{id_after}
 use Rattle.packet_frame.specs.declared.packets.FrameFault.{FrameFault}
-use Rattle.session_talk.specs.Wired.{Stream, behind_of, front_of}
+use Rattle.packet_stream.specs.Streams.{Stream, behind_of, by_front, front_of}
 use Rattle.login_client.specs.Heard.{heard_of}
 use Rattle.login_client.specs.Talk.{Talk, Hears, Says, Over, IsWaiting, hearing}
 use Rattle.login_client.specs.declared.ends.LoginEnd.TheVariants.{Framing}
 use Rattle.login_client.specs.declared.hearing.Heard.{Heard}
-use Rattle.client_wire.specs.Getting.{Got, by_front, getting, rests}
+use Rattle.client_wire.specs.Getting.{Got, getting, rests}
 
 abbrev pub at_front : ℕ → (Heard → Talk) → Stream → Front → Got
 at_front next k stream f = by_front (λ last payload behind. getting (id_after last) (k (heard_of payload)) (behind_of stream behind))

@@ -1,31 +1,17 @@
 -- What comes of bytes goes on, however they are cut.
-use Rattle.std.proofs.Common.{◌≡◌, refl, ap, sym, ◌∙◌, ℕ, ◌+◌, ◌-◌, List, ◌++◌, length, length-append, append_assoc, arith}
+use Rattle.std.proofs.Common.{◌≡◌, refl, ap, sym, ◌∙◌, ℕ, List, ◌++◌, append_assoc}
 use Rattle.packet_frame.specs.Front.{Front, Whole, Part, Fault, StaysWith}
 use Rattle.packet_frame.specs.Packets.{id_after}
-use Rattle.packet_frame.specs.declared.packets.Want.TheVariants.{Exactly}
-use Rattle.packet_frame.proofs.Longer.{front-stays}
-use Rattle.session_talk.specs.Laws.{with_more}
-use Rattle.session_talk.specs.Turns.{id_behind}
-use Rattle.session_talk.specs.Wired.{Stream, behind_of, front_of, most_payload}
+use Rattle.packet_stream.proofs.Longer.{behind_more, stays}
+use Rattle.packet_stream.specs.Streams.{Stream, behind_of, front_of, with_more}
+use Rattle.packet_stream.specs.Sent.{id_behind}
 use Rattle.login_client.specs.Heard.{heard_of}
 use Rattle.login_client.specs.Talk.{Talk, Hears, Says, Over}
 use Rattle.login_client.specs.declared.hearing.Heard.{Heard}
 use Rattle.client_wire.specs.Getting.{Got, after_written, getting}
 use Rattle.client_wire.specs.Laws.{GettingGoesOn}
-use Rattle.client_wire.specs.Packing.{packet_text}
+use Rattle.packet_stream.specs.Packing.{packet_text}
 use Rattle.client_wire.proofs.Fronted.{at_front}
-
-stays : (stream : Stream) (more : List ℕ) (want : ℕ) → StaysWith more (front_of want stream) (front_of want (with_more stream more))
-stays stream more want = front-stays (length stream.bytes) most_payload (Exactly want) stream.place stream.bytes more (omega arith)
-
--- the stream behind a packet, with more bytes
-behind_more : (stream : Stream) (behind more : List ℕ) → behind_of (with_more stream more) (behind ++ more) ≡ with_more (behind_of stream behind) more
-behind_more stream behind more = ap (λ (place : ℕ). record { place = place; bytes = behind ++ more })
-    (same (length-append stream.bytes more) (length-append behind more))
-  where
-    same : length (stream.bytes ++ more) ≡ length stream.bytes + length more → length (behind ++ more) ≡ length behind + length more →
-        stream.place + (length (stream.bytes ++ more) - length (behind ++ more)) ≡ stream.place + (length stream.bytes - length behind)
-    same e f = omega (arith, e, f)
 
 abbrev goes_on : Got → List ℕ → Got
 goes_on before more = after_written before.sent (getting before.next before.at (with_more before.unread more))

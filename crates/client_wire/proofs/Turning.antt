@@ -3,8 +3,8 @@ use Rattle.std.proofs.Common.{◌≡◌, ap, sym, ◌∙◌, subst, ℕ, List, [
 use Rattle.packet_frame.specs.Packets.{id_after}
 use Rattle.packet_frame.specs.declared.packets.FrameFault.{FrameFault}
 use Rattle.packet_frame.specs.declared.packets.Packet.{Packet}
-use Rattle.session_talk.specs.Turns.{id_behind}
-use Rattle.session_talk.specs.Wired.{Stream}
+use Rattle.packet_stream.specs.Sent.{id_behind}
+use Rattle.packet_stream.specs.Streams.{Stream}
 use Rattle.login_client.specs.Acting.{Acts, Does}
 use Rattle.login_client.specs.Clients.{talk_of}
 use Rattle.login_client.specs.Heard.{heard_of}
@@ -18,9 +18,9 @@ use Rattle.login_client.specs.declared.hearing.Heard.{Heard}
 use Rattle.login_client.proofs.HeardOf.{is_read}
 use Rattle.client_wire.specs.Ends.{LeadsTo, Standing, at_of, got_by, heard_by, stands_at}
 use Rattle.client_wire.specs.Getting.{Got, after_written, getting, rests}
-use Rattle.client_wire.specs.Inbox.{Takes}
-use Rattle.client_wire.specs.Packing.{packet_text}
-use Rattle.client_wire.specs.declared.inbox.Found.TheVariants as found
+use Rattle.packet_stream.specs.Inbox.{Takes}
+use Rattle.packet_stream.specs.Packing.{packet_text}
+use Rattle.packet_stream.specs.declared.inbox.Found.TheVariants as found
 use Rattle.client_wire.proofs.Fronted.{getting-fault, getting-packet, getting-part}
 
 -- ## What is taken of the bytes

@@ -2,8 +2,7 @@
 use Rattle.std.specs.Prelude.{◌≡◌, ◌<◌, ℕ, List, ◌++◌, length, Option, Some, None}
 use Rattle.packet_frame.specs.Packets.{id_after}
 use Rattle.packet_frame.specs.declared.packets.Packet.{Packet}
-use Rattle.session_talk.specs.Laws.{with_more}
-use Rattle.session_talk.specs.Wired.{Stream}
+use Rattle.packet_stream.specs.Streams.{Stream, with_more}
 use Rattle.login_client.specs.Clients.{talk_of}
 use Rattle.login_client.specs.Heard.{heard_of}
 use Rattle.login_client.specs.Talk.{Talk, IsWaiting, Over, hearing}

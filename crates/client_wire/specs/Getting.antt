@@ -1,14 +1,12 @@
 -- A client over bytes: it reads the packets among those that have come to it, and writes what its talk says.
 use Rattle.std.specs.Prelude.{ℕ, List, [], ◌++◌}
-use Rattle.packet_frame.specs.Front.{Front, Whole, Part, Fault}
 use Rattle.packet_frame.specs.Packets.{id_after}
-use Rattle.packet_frame.specs.declared.packets.FrameFault.{FrameFault}
-use Rattle.session_talk.specs.Turns.{id_behind}
-use Rattle.session_talk.specs.Wired.{Stream, behind_of, front_of}
+use Rattle.packet_stream.specs.Sent.{id_behind}
+use Rattle.packet_stream.specs.Streams.{Stream, behind_of, by_front, front_of}
 use Rattle.login_client.specs.Heard.{heard_of}
 use Rattle.login_client.specs.Talk.{Talk, Hears, Says, Over}
 use Rattle.login_client.specs.declared.ends.LoginEnd.TheVariants.{Framing}
-use Rattle.client_wire.specs.Packing.{packet_text}
+use Rattle.packet_stream.specs.Packing.{packet_text}
 
 -- what came of bytes: the bytes that the client writes, the id that it wants of the next packet, where its talk stands,
 -- and the bytes that it hasn't read
@@ -23,12 +21,6 @@ after_written text g = record g { sent = text ++ g.sent }
 
 abbrev pub rests : (next : ℕ) → Talk → Stream → Got
 rests next t stream = record { sent = []; next = next; at = t; unread = stream }
-
--- by what stands at the front of the bytes: a packet, less than one, or a fault
-abbrev pub by_front : (ℕ → List ℕ → List ℕ → Got) → Got → (FrameFault → Got) → Front → Got
-by_front whole part fault (Whole first last payload behind) = whole last payload behind
-by_front whole part fault (Part missing) = part
-by_front whole part fault (Fault found) = fault found
 
 -- A fault of framing ends the login. What stands behind its end isn't read.
 unfoldable pub getting : (next : ℕ) → Talk → Stream → Got

@@ -2,8 +2,7 @@
 use Rattle.std.specs.Prelude.{◌≡◌, ◌<◌, ℕ, List, ◌++◌, All}
 use Rattle.packet_frame.specs.Streams.{Ending, Faulty}
 use Rattle.packet_frame.specs.declared.packets.FrameFault.{FrameFault}
-use Rattle.session_talk.specs.Laws.{with_more}
-use Rattle.session_talk.specs.Wired.{Stream}
+use Rattle.packet_stream.specs.Streams.{Stream, with_more}
 use Rattle.login_client.specs.Exchange.{Ends, IsExchange, IsOpen, Waits}
 use Rattle.login_client.specs.Talk.{Talk, IsWaiting, Over}
 use Rattle.login_client.specs.declared.ends.LoginEnd.{LoginEnd}

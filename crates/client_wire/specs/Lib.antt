@@ -1,5 +1,3 @@
-pub mod Packing
-pub mod Inbox
 pub mod Getting
 pub mod Ends
 pub mod Words

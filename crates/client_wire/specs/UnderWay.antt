@@ -1,5 +1,5 @@
 -- A client, and the bytes that are under way between it and its server.
-use Rattle.std.specs.Prelude.{ℕ, ◌==◌, Bool, true, false, if◌then◌else◌, List, [], ◌∷◌, ◌++◌, Option, Some, None}
+use Rattle.std.specs.Prelude.{ℕ, ◌==◌, true, if◌then◌else◌, List, [], ◌++◌, Option, Some, None}
 use Rattle.login_client.specs.Conversation.{conversation}
 use Rattle.login_client.specs.Talk.{result_of}
 use Rattle.login_client.specs.declared.claims.Claim.{Claim}
@@ -30,10 +30,6 @@ new_client claim coming = record {
 -- bytes that are under way to it
 abbrev pub sent_to : List ℕ → Client → Client
 sent_to bytes client = record client { coming = client.coming ++ bytes }
-
-abbrev pub has_bytes : List ℕ → Bool
-has_bytes [] = false
-has_bytes (_ ∷ _) = true
 
 -- what comes of the bytes that a client gets
 abbrev pub getting_by : Client → (bytes : List ℕ) → Got

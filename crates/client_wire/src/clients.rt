@@ -9,9 +9,9 @@ ghost use Rattle.std.specs.Prelude.{◌≡◌, ◌++◌, ℕ, Option, Some, drop
 
 use crate::ends::ClientEnd;
 use crate::held_client::HeldClient;
-use crate::queue::Queue;
 use lg_base::{Memory, Out};
 use login_client::{ClientOptions, LoginEnd, Secrets};
+use packet_stream::Queue;
 use std::alloc::Global;
 use std::collections::BTreeMap;
 

@@ -8,11 +8,10 @@ ghost use Rattle.login_client.specs.Talk.{IsWaiting, Over, result_of};
 ghost use Rattle.login_client.specs.Zeros.{HasNoZero};
 ghost use Rattle.std.specs.Prelude.{◌≡◌, ◌++◌, [], IfNone, IfOk, OnOk};
 
-use crate::inbox::{Found, Inbox};
-use crate::packing::add_packet;
 use lg_base::{Memory, Out};
 use login_client::{Client, ClientAct, ClientOptions, LoginEnd, Secrets};
 use packet_frame::Packet;
+use packet_stream::{Found, Inbox, add_packet};
 use std::alloc::Global;
 
 /// A client in a login, and the bytes that it hasn't read. Contracts see where it stands.

@@ -5,8 +5,8 @@ ghost use Rattle.client_wire.specs.Waiting.{waits_by};
 ghost use Rattle.std.specs.Prelude.{◌≡◌, true};
 
 use crate::ends::ClientEnd;
-use crate::queue::Queue;
 use login_client::LoginEnd;
+use packet_stream::Queue;
 
 /// A client, the bytes that are under way to it and from it, and its result, once that was told.
 #[derive(Drop)]

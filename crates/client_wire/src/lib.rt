@@ -9,26 +9,18 @@
 //! [`HeldClient`] is such a client with the bytes that are under way between it and its server, as a world of clients
 //! keeps it between events (`specs/UnderWay.antt`).
 //!
-//! The parts serve the other end too: [`Inbox`] keeps bytes that a peer has sent, and takes the packet at their front;
-//! [`add_packets`] adds the packets of payloads, whose sequence ids rise from a first one; [`add_words`] tells how a
-//! login ended. Packets are those of "MySQL Packets" and "Sending More Than 16Mb" of the MySQL client/server protocol
-//! documentation. Below stand `login_client` for the talk, `packet_frame` for packets, and `session_talk` for what a
-//! stream and a payload that is sent are.
+//! [`add_words`] tells how a login ended. Below stand `login_client` for the talk, and `packet_stream` for bytes that came
+//! and weren't read, and for packets as they are written.
 #![tactic(auto)]
 
 pub mod clients;
 pub mod ends;
 pub mod held_client;
-pub mod inbox;
 pub mod laws;
-pub mod packing;
-pub mod queue;
 #[cfg(test)]
 mod tests;
 pub mod words;
 
 pub use ends::ClientEnd;
 pub use held_client::HeldClient;
-pub use inbox::{Found, Inbox};
-pub use packing::{add_packet, add_packets};
 pub use words::add_words;

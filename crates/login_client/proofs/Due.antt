@@ -9,7 +9,8 @@ use Rattle.packet_frame.specs.declared.packets.Want.{Want}
 use Rattle.packet_frame.specs.declared.packets.Want.TheVariants.{Exactly}
 use Rattle.packet_frame.proofs.Readings.{concat-push, front-packet}
 use Rattle.packet_frame.proofs.Streams.{ending-no_packet, fault-goes_on, front-ending}
-use Rattle.login_client.specs.Exchange.{EndsAs, EndsAsDue, IsAtEnd, IsExchange, IsOpen, Stand, Waits, Ends, closed, decided, failed, framing, hears, longest_payload, no_memory, over, says, waits}
+use Rattle.login_client.specs.Exchange.{EndsAs, EndsAsDue, IsAtEnd, IsExchange, IsOpen, Stand, Waits, Ends, closed, decided, failed, framing, hears, no_memory, over, says, waits}
+use Rattle.packet_stream.specs.declared.limits.TheConstants.{MAX_PAYLOAD}
 use Rattle.login_client.specs.Hearing.{IsHeard}
 use Rattle.login_client.specs.Talk.{Talk, Hears, Says, Over}
 use Rattle.login_client.specs.declared.ends.LoginEnd.{LoginEnd}
@@ -36,8 +37,8 @@ one-last limit limit' want want' first last last' payload text text' p q =
 
 abbrev Inverse : Talk → (id place : ℕ) → (got sent : List ℕ) → Stand → Type 0
 Inverse (Hears k) id place got sent stand =
-    ((ending : Ending) × (stand ≡ Waits ending) × IsEnding longest_payload (Exactly id) place got ending)
-    ⊎ ((first last : ℕ) × (payload head rest : List ℕ) × (heard : Heard) × (got ≡ head ++ rest) × IsPacket longest_payload (Exactly id) first last payload head × IsHeard payload heard
+    ((ending : Ending) × (stand ≡ Waits ending) × IsEnding MAX_PAYLOAD (Exactly id) place got ending)
+    ⊎ ((first last : ℕ) × (payload head rest : List ℕ) × (heard : Heard) × (got ≡ head ++ rest) × IsPacket MAX_PAYLOAD (Exactly id) first last payload head × IsHeard payload heard
     × IsExchange (k heard) (id_after last) (place + length head) rest sent stand)
 Inverse (Says said k) id place got sent stand =
     (last : ℕ) × (text rest : List ℕ) × IsPacket (length said) (Exactly id) id last said text × IsExchange (Hears k) (id_after last) place got rest stand
@@ -58,24 +59,24 @@ InVain (Waits Between) behind = behind ≡ []
 InVain (Waits (Cut at)) behind = behind ≡ []
 InVain (Waits (Faulty fault)) behind = Unit {0}
 
-still-ends : (ending : Ending) (id place : ℕ) (bytes behind : List ℕ) → IsEnding longest_payload (Exactly id) place bytes ending → InVain (Waits ending) behind
-    → IsEnding longest_payload (Exactly id) place (bytes ++ behind) ending
-still-ends Between id place bytes behind ends none = subst (λ (l : List ℕ). IsEnding longest_payload (Exactly id) place l Between) (sym (ap (λ (l : List ℕ). bytes ++ l) none ∙ append-nil bytes)) ends
-still-ends (Cut at) id place bytes behind ends none = subst (λ (l : List ℕ). IsEnding longest_payload (Exactly id) place l (Cut at)) (sym (ap (λ (l : List ℕ). bytes ++ l) none ∙ append-nil bytes)) ends
-still-ends (Faulty fault) id place bytes behind ends none = fault-goes_on longest_payload (Exactly id) place fault bytes behind ends
+still-ends : (ending : Ending) (id place : ℕ) (bytes behind : List ℕ) → IsEnding MAX_PAYLOAD (Exactly id) place bytes ending → InVain (Waits ending) behind
+    → IsEnding MAX_PAYLOAD (Exactly id) place (bytes ++ behind) ending
+still-ends Between id place bytes behind ends none = subst (λ (l : List ℕ). IsEnding MAX_PAYLOAD (Exactly id) place l Between) (sym (ap (λ (l : List ℕ). bytes ++ l) none ∙ append-nil bytes)) ends
+still-ends (Cut at) id place bytes behind ends none = subst (λ (l : List ℕ). IsEnding MAX_PAYLOAD (Exactly id) place l (Cut at)) (sym (ap (λ (l : List ℕ). bytes ++ l) none ∙ append-nil bytes)) ends
+still-ends (Faulty fault) id place bytes behind ends none = fault-goes_on MAX_PAYLOAD (Exactly id) place fault bytes behind ends
 
 -- a packet at the front of bytes that go on
-front-is : (id first last place : ℕ) (payload head rest behind bytes : List ℕ) → IsPacket longest_payload (Exactly id) first last payload head → bytes ≡ (head ++ rest) ++ behind
-    → front longest_payload (Exactly id) place bytes ≡ Whole first last payload (rest ++ behind)
+front-is : (id first last place : ℕ) (payload head rest behind bytes : List ℕ) → IsPacket MAX_PAYLOAD (Exactly id) first last payload head → bytes ≡ (head ++ rest) ++ behind
+    → front MAX_PAYLOAD (Exactly id) place bytes ≡ Whole first last payload (rest ++ behind)
 front-is id first last place payload head rest behind bytes packet is =
-    ap (λ (l : List ℕ). front longest_payload (Exactly id) place l) (is ∙ append_assoc head rest behind)
-    ∙ front-packet longest_payload (Exactly id) first last payload head place (rest ++ behind) packet
+    ap (λ (l : List ℕ). front MAX_PAYLOAD (Exactly id) place l) (is ∙ append_assoc head rest behind)
+    ∙ front-packet MAX_PAYLOAD (Exactly id) first last payload head place (rest ++ behind) packet
 
-never-waits : (ending : Ending) (id place first last : ℕ) (payload head rest behind bytes tail : List ℕ) → IsPacket longest_payload (Exactly id) first last payload head
-    → (head ++ rest) ++ behind ≡ bytes ++ tail → IsEnding longest_payload (Exactly id) place bytes ending → InVain (Waits ending) tail → ⊥
+never-waits : (ending : Ending) (id place first last : ℕ) (payload head rest behind bytes tail : List ℕ) → IsPacket MAX_PAYLOAD (Exactly id) first last payload head
+    → (head ++ rest) ++ behind ≡ bytes ++ tail → IsEnding MAX_PAYLOAD (Exactly id) place bytes ending → InVain (Waits ending) tail → ⊥
 never-waits ending id place first last payload head rest behind bytes tail packet same ends vain =
-    ending-no_packet ending place (front longest_payload (Exactly id) place (bytes ++ tail)) first last payload (rest ++ behind)
-    (front-ending longest_payload (Exactly id) place (bytes ++ tail) ending (still-ends ending id place bytes tail ends vain))
+    ending-no_packet ending place (front MAX_PAYLOAD (Exactly id) place (bytes ++ tail)) first last payload (rest ++ behind)
+    (front-ending MAX_PAYLOAD (Exactly id) place (bytes ++ tail) ending (still-ends ending id place bytes tail ends vain))
     (front-is id first last place payload head rest behind (bytes ++ tail) packet (sym same))
 
 -- two packets at the front of the same bytes
@@ -84,8 +85,8 @@ record SamePacket (last last' : ℕ) (payload payload' rest rest' : List ℕ) : 
   pub payloads : payload' ≡ payload
   pub rests : rest ≡ rest'
 
-same-packet : (id first last first' last' : ℕ) (payload head rest behind payload' head' rest' behind' : List ℕ) → IsPacket longest_payload (Exactly id) first last payload head
-    → IsPacket longest_payload (Exactly id) first' last' payload' head' → (head ++ rest) ++ behind ≡ (head' ++ rest') ++ behind'
+same-packet : (id first last first' last' : ℕ) (payload head rest behind payload' head' rest' behind' : List ℕ) → IsPacket MAX_PAYLOAD (Exactly id) first last payload head
+    → IsPacket MAX_PAYLOAD (Exactly id) first' last' payload' head' → (head ++ rest) ++ behind ≡ (head' ++ rest') ++ behind'
     → SamePacket last last' payload payload' (rest ++ behind) (rest' ++ behind')
 same-packet id first last first' last' payload head rest behind payload' head' rest' behind' p q same =
     let x = front-is id first last 0 payload head rest behind ((head ++ rest) ++ behind) p refl in
@@ -100,9 +101,9 @@ agree : (talk : Talk) (id place place' : ℕ) (got sent got' sent' behind behind
     → IsExchange talk id place' got' sent' stand' → got ++ behind ≡ got' ++ behind' → InVain stand' behind' → stand' ≡ Ends due
 agree _ _ _ place' _ _ got' sent' behind behind' _ stand' due (hears k id place first last payload head got sent heard stand packet is-heard x) is y same vain =
     ⊎_elim {C = stand' ≡ Ends due}
-    (λ (w : (ending : Ending) × (stand' ≡ Waits ending) × IsEnding longest_payload (Exactly id) place' got' ending).
+    (λ (w : (ending : Ending) × (stand' ≡ Waits ending) × IsEnding MAX_PAYLOAD (Exactly id) place' got' ending).
     absurd (never-waits w.0 id place' first last payload head got behind got' behind' packet same w.2 (subst (λ (s : Stand). InVain s behind') w.1 vain)))
-    (λ (h : (first' last' : ℕ) × (payload' head' rest' : List ℕ) × (heard' : Heard) × (got' ≡ head' ++ rest') × IsPacket longest_payload (Exactly id) first' last' payload' head' × IsHeard payload' heard'
+    (λ (h : (first' last' : ℕ) × (payload' head' rest' : List ℕ) × (heard' : Heard) × (got' ≡ head' ++ rest') × IsPacket MAX_PAYLOAD (Exactly id) first' last' payload' head' × IsHeard payload' heard'
     × IsExchange (k heard') (id_after last') (place' + length head') rest' sent' stand').
     let same-two : SamePacket last h.1 payload h.2 (got ++ behind) (h.4 ++ behind') =
     same-packet id first last h.0 h.1 payload head got behind h.2 h.3 h.4 behind' packet h.7 (same ∙ ap (λ (l : List ℕ). l ++ behind') h.6) in

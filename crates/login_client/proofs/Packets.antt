@@ -16,7 +16,8 @@ use Rattle.lg_outside.specs.Traffic.{Traffic}
 use Rattle.login_client.specs.Reading.{ReadsPacket, Stops, between, end_at, framing, longest_packet, no_memory}
 use Rattle.login_client.specs.declared.ends.LoginEnd.{LoginEnd}
 use Rattle.login_client.specs.declared.ends.LoginEnd.TheVariants.{Framing as ByFraming}
-use Rattle.login_client.specs.Exchange.{IsOpen, Moved, longest_payload}
+use Rattle.login_client.specs.Exchange.{IsOpen, Moved}
+use Rattle.packet_stream.specs.declared.limits.TheConstants.{MAX_PAYLOAD}
 
 -- a front that is sound and no packet is unfinished
 pub part-of : (f : Front) → IsSound f → (IsWhole f → ⊥) → (missing : ℕ) × (f ≡ Part missing)
@@ -25,7 +26,7 @@ part-of (Part missing) s w = (missing, refl)
 part-of (Fault fault) s w = absurd s
 
 -- no full piece fits
-no-full : (full : List (List ℕ)) → AllFull full → length (concat full) ≤ longest_payload → full ≡ []
+no-full : (full : List (List ℕ)) → AllFull full → length (concat full) ≤ MAX_PAYLOAD → full ≡ []
 no-full [] each fits = refl
 no-full (piece ∷ full) each fits = absurd (omega (arith, each.0, fits, length-append piece (concat full)))
 
@@ -33,7 +34,7 @@ header-length : (size id : ℕ) → length (header_text size id) ≡ 4
 header-length size id = refl
 
 -- a packet has few bytes
-pub packet-short : (want : Want) (first last : ℕ) (payload head : List ℕ) → IsPacket longest_payload want first last payload head → length head ≤ longest_packet
+pub packet-short : (want : Want) (first last : ℕ) (payload head : List ℕ) → IsPacket MAX_PAYLOAD want first last payload head → length head ≤ longest_packet
 packet-short want first last payload head p = at p.full p.each_full p.joined p.laid_out where
   at : (full : List (List ℕ)) → AllFull full → payload ≡ concat (full ++ p.ending ∷ []) → head ≡ pieces_text first (full ++ p.ending ∷ []) → length head ≤ longest_packet
   at [] each joined laid =
@@ -43,7 +44,7 @@ packet-short want first last payload head p = at p.full p.each_full p.joined p.l
       absurd (omega (arith, each.0, p.fits, ap (λ (l : List ℕ). length l) joined, length-append piece (concat (full ++ p.ending ∷ []))))
 
 -- so has less than one, and some are missing
-cut-short : (room : ℕ) (want : Want) (missing : ℕ) (present : List ℕ) → room ≤ longest_payload → IsCut room want missing present → (length present < longest_packet) × (0 < missing)
+cut-short : (room : ℕ) (want : Want) (missing : ℕ) (present : List ℕ) → room ≤ MAX_PAYLOAD → IsCut room want missing present → (length present < longest_packet) × (0 < missing)
 cut-short room want missing present small cut = ⊎_elim {C = (length present < longest_packet) × (0 < missing)}
     (λ (h : (length present < 4) × (length present + missing ≡ 4)). (omega (arith, h.0), omega (arith, h.0, h.1)))
     (λ (h : (size id : ℕ) × (some : List ℕ) × (present ≡ header_text size id ++ some) × (size < 16777216) × _ × (size ≤ room) × (length some < size) × (length some + missing ≡ size)). (
@@ -52,13 +53,13 @@ cut-short room want missing present small cut = ⊎_elim {C = (length present < 
     ))
     cut
 
-pub unfinished-short : (want : Want) (missing : ℕ) (held : List ℕ) → IsUnfinished longest_payload want missing held → (length held < longest_packet) × (0 < missing)
+pub unfinished-short : (want : Want) (missing : ℕ) (held : List ℕ) → IsUnfinished MAX_PAYLOAD want missing held → (length held < longest_packet) × (0 < missing)
 unfinished-short want missing held u =
     let begun = u.begun in
     let none : begun.full ≡ [] = no-full begun.full begun.each_full (omega (arith, begun.total_is, begun.fits)) in
     let nothing : u.before ≡ [] = begun.laid_out ∙ ap (λ (full : List (List ℕ)). pieces_text begun.first full) none in
     let held-is : held ≡ u.present = u.laid_out ∙ ap (λ (before : List ℕ). before ++ u.present) nothing in
-    let short = cut-short (longest_payload - u.total) u.next missing u.present (omega arith) u.cut in
+    let short = cut-short (MAX_PAYLOAD - u.total) u.next missing u.present (omega arith) u.cut in
     (subst (λ (l : List ℕ). length l < longest_packet) (sym held-is) short.0, short.1)
 
 -- a reader that has a part of a packet
@@ -72,7 +73,7 @@ pub part-none : (begun : Framing) (id place : ℕ) → begun ≡ between id plac
 part-none begun id place is = record {
   same = refl;
   missing = 4;
-  part = ap (λ (v : Framing). front_of v) is ∙ front-nothing longest_payload (Exactly id) place;
+  part = ap (λ (v : Framing). front_of v) is ∙ front-nothing MAX_PAYLOAD (Exactly id) place;
 }
 
 -- bytes were taken
@@ -90,7 +91,7 @@ pub all-taken : (old : Framing) (piece : List ℕ) (now : Framing) → length pi
 all-taken old piece now small grown = grown ∙ ap (λ (l : List ℕ). with_bytes old l) (take_all (missing_of (front_of old)) piece small)
 
 abbrev pub partly : (id place : ℕ) → List ℕ → Framing
-partly id place held = record { limit = longest_payload; want = Exactly id; start = place; held = held }
+partly id place held = record { limit = MAX_PAYLOAD; want = Exactly id; start = place; held = held }
 
 partly-is : (begun now : Framing) (id place : ℕ) → begun ≡ between id place → now ≡ record begun { held = now.held } → now ≡ partly id place now.held
 partly-is begun now id place is same = same ∙ ap (λ (v : Framing). let w : Framing = record v { held = now.held } in w) is
@@ -99,17 +100,17 @@ some-or-none : (xs : List ℕ) → (xs ≡ []) ⊎ (xs ≡ [] → ⊥)
 some-or-none [] = inl refl
 some-or-none (x ∷ xs) = inr (λ e. cc)
 
-unfinished : (begun now : Framing) (id place : ℕ) → begun ≡ between id place → (part : IsPartRead begun now) → IsReading now → IsUnfinished longest_payload (Exactly id) part.missing now.held
+unfinished : (begun now : Framing) (id place : ℕ) → begun ≡ between id place → (part : IsPartRead begun now) → IsReading now → IsUnfinished MAX_PAYLOAD (Exactly id) part.missing now.held
 unfinished begun now id place is part reading =
     let now-is = partly-is begun now id place is part.same in
-    let shown : front longest_payload (Exactly id) place now.held ≡ Part part.missing = sym (ap (λ (v : Framing). front_of v) now-is) ∙ part.part in
-    subst (λ (f : Front). IsFront longest_payload (Exactly id) place now.held f) shown (subst (λ (v : Framing). IsReading v) now-is reading)
+    let shown : front MAX_PAYLOAD (Exactly id) place now.held ≡ Part part.missing = sym (ap (λ (v : Framing). front_of v) now-is) ∙ part.part in
+    subst (λ (f : Front). IsFront MAX_PAYLOAD (Exactly id) place now.held f) shown (subst (λ (v : Framing). IsReading v) now-is reading)
 
 -- what was read ends a stream there
 pub part-ends : (begun now : Framing) (id place : ℕ) → begun ≡ between id place → IsPartRead begun now → IsReading now
-    → (ending : Ending) × IsEnding longest_payload (Exactly id) place now.held ending × IsOpen ending
+    → (ending : Ending) × IsEnding MAX_PAYLOAD (Exactly id) place now.held ending × IsOpen ending
 part-ends begun now id place is part reading =
-    ⊎_elim {C = (ending : Ending) × IsEnding longest_payload (Exactly id) place now.held ending × IsOpen ending}
+    ⊎_elim {C = (ending : Ending) × IsEnding MAX_PAYLOAD (Exactly id) place now.held ending × IsOpen ending}
     (λ (none : now.held ≡ []). (Between, none, tt {0}))
     (λ (some : now.held ≡ [] → ⊥). (Cut place, (some, refl, part.missing, unfinished begun now id place is part reading), tt {0}))
     (some-or-none now.held)
@@ -123,18 +124,18 @@ part-short begun now id place is part reading =
 
 -- what was read shows a fault
 pub part-faulty : (begun now : Framing) (id place : ℕ) (fault : FrameFault) → begun ≡ between id place → now ≡ record begun { held = now.held } → IsReading now → front_of now ≡ Fault fault
-    → IsFault longest_payload (Exactly id) place fault now.held
+    → IsFault MAX_PAYLOAD (Exactly id) place fault now.held
 part-faulty begun now id place fault is same reading shown =
     let now-is = partly-is begun now id place is same in
-    let found : front longest_payload (Exactly id) place now.held ≡ Fault fault = sym (ap (λ (v : Framing). front_of v) now-is) ∙ shown in
-    subst (λ (f : Front). IsFront longest_payload (Exactly id) place now.held f) found (subst (λ (v : Framing). IsReading v) now-is reading)
+    let found : front MAX_PAYLOAD (Exactly id) place now.held ≡ Fault fault = sym (ap (λ (v : Framing). front_of v) now-is) ∙ shown in
+    subst (λ (f : Front). IsFront MAX_PAYLOAD (Exactly id) place now.held f) found (subst (λ (v : Framing). IsReading v) now-is reading)
 
 -- the packet is taken out
 pub part-packet : (begun v : Framing) (id place : ℕ) (before after : Option Traffic) (packet : Packet) (now : Framing) → begun ≡ between id place → v ≡ record begun { held = v.held }
     → Moved before after v.held [] → TakesPacket v packet now → ReadsPacket id place before after packet now
 part-packet begun v id place before after packet now is same moved taken =
     let v-is = partly-is begun v id place is same in
-    let is-packet : IsPacket longest_payload (Exactly id) packet.first packet.last packet.payload v.held =
+    let is-packet : IsPacket MAX_PAYLOAD (Exactly id) packet.first packet.last packet.payload v.held =
     subst (λ (w : Framing). IsPacket w.limit w.want packet.first packet.last packet.payload v.held) v-is taken.is_packet in
     record {
       head = v.held;

@@ -9,7 +9,8 @@ use Rattle.packet_frame.specs.declared.packets.Packet.{Packet}
 use Rattle.packet_frame.specs.declared.packets.Want.TheVariants.{Exactly}
 use Rattle.packet_frame.proofs.Fronts.{front-nothing}
 use Rattle.login_client.specs.Acting.{Acts, Does}
-use Rattle.login_client.specs.Exchange.{EndsAs, EndsWithin, IsDecided, IsExchange, Moved, Stand, Ends, Waits, closed as ends-closed, decided, failed as ends-failed, framing as ends-framing, hears, longest_payload, no_memory as ends-no_memory, over, says, waits}
+use Rattle.login_client.specs.Exchange.{EndsAs, EndsWithin, IsDecided, IsExchange, Moved, Stand, Ends, Waits, closed as ends-closed, decided, failed as ends-failed, framing as ends-framing, hears, no_memory as ends-no_memory, over, says, waits}
+use Rattle.packet_stream.specs.declared.limits.TheConstants.{MAX_PAYLOAD}
 use Rattle.login_client.specs.Reading.{Fails, GoesOn, ReadsPacket, Stops, Writes, between, closed, cut, failed, framing, no_memory, unwritten}
 use Rattle.login_client.specs.Talk.{Talk, Hears, Says, Over, IsWaiting}
 use Rattle.login_client.specs.declared.ends.ClientAct.{ClientAct}
@@ -131,7 +132,7 @@ heard-says zero (Hears k) id place before middle after packet frames now first p
 heard-says (suc n) (Hears k) id place before middle after packet frames now first payload next after-id w h read acts wrote expected =
     let s = saying (k acts.heard) packet.last first payload next acts.does in
     let place' = place + length read.head in
-    let fresh : front_of frames ≡ Part 4 = ap (λ (v : Framing). front_of v) read.now_is ∙ front-nothing longest_payload (Exactly (id_after packet.last)) place' in
+    let fresh : front_of frames ≡ Part 4 = ap (λ (v : Framing). front_of v) read.now_is ∙ front-nothing MAX_PAYLOAD (Exactly (id_after packet.last)) place' in
     record {
       got = read.head;
       sent = wrote.text;
@@ -174,7 +175,7 @@ heard-fails n (Over e) id place before middle after packet frames first payload 
 
 -- between packets nothing is held
 pub held-between : (frames : Framing) (id place : ℕ) → frames ≡ between id place → held_length frames ≡ 0
-held-between frames id place is = ap (λ (v : Framing). held_length v) is ∙ ap (λ (f : Front). unfinished_length f 0) (front-nothing longest_payload (Exactly id) place)
+held-between frames id place is = ap (λ (v : Framing). held_length v) is ∙ ap (λ (f : Front). unfinished_length f 0) (front-nothing MAX_PAYLOAD (Exactly id) place)
 
 does-within : (n : ℕ) (talk : Talk) (last : ℕ) (act : Option ClientAct) (next : Talk) → EndsWithin n talk → Does talk last act next → EndsWithin n next
 does-within n (Hears k) last None next h d = subst (λ (t : Talk). EndsWithin n t) (sym d) h

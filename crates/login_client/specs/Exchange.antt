@@ -6,15 +6,12 @@ use Rattle.packet_frame.specs.Packets.{id_after, IsPacket}
 use Rattle.packet_frame.specs.Streams.{Ending, Between, Cut, Faulty, IsEnding}
 use Rattle.packet_frame.specs.declared.packets.FrameFault.{FrameFault}
 use Rattle.packet_frame.specs.declared.packets.Want.TheVariants.{Exactly}
+use Rattle.packet_stream.specs.declared.limits.TheConstants.{MAX_PAYLOAD}
 use Rattle.login_client.specs.Hearing.{IsHeard}
 use Rattle.login_client.specs.Talk.{Talk, Hears, Says, Over}
 use Rattle.login_client.specs.declared.ends.LoginEnd.{LoginEnd}
 use Rattle.login_client.specs.declared.ends.LoginEnd.TheVariants.{Opened, Refused, Malformed, Framing, WontSend, PeerClosed, LinkFault, Memory}
 use Rattle.login_client.specs.declared.hearing.Heard.{Heard}
-
--- the most bytes of a payload that the client takes
-abbrev pub longest_payload : ℕ
-longest_payload = 1048576
 
 -- Where the bytes got leave a talk: it waits for a payload, and the bytes end between packets, within one or at a
 -- fault; or it is over.
@@ -26,10 +23,10 @@ pub data Stand : Type 0 where
 -- stands at the place. No byte is got behind the packet that ends the talk.
 pub data IsExchange : Talk → (id place : ℕ) → (got sent : List ℕ) → Stand → Type 0 where
   hears : (k : Heard → Talk) (id place first last : ℕ) (payload head got sent : List ℕ) (heard : Heard) (stand : Stand)
-      → IsPacket longest_payload (Exactly id) first last payload head → IsHeard payload heard
+      → IsPacket MAX_PAYLOAD (Exactly id) first last payload head → IsHeard payload heard
       → IsExchange (k heard) (id_after last) (place + length head) got sent stand
       → IsExchange (Hears k) id place (head ++ got) sent stand
-  waits : (k : Heard → Talk) (id place : ℕ) (got : List ℕ) (ending : Ending) → IsEnding longest_payload (Exactly id) place got ending
+  waits : (k : Heard → Talk) (id place : ℕ) (got : List ℕ) (ending : Ending) → IsEnding MAX_PAYLOAD (Exactly id) place got ending
       → IsExchange (Hears k) id place got [] (Waits ending)
   says : (said : List ℕ) (k : Heard → Talk) (id place last : ℕ) (text got sent : List ℕ) (stand : Stand)
       → IsPacket (length said) (Exactly id) id last said text

@@ -8,14 +8,15 @@ use Rattle.packet_frame.specs.declared.packets.Packet.{Packet}
 use Rattle.packet_frame.specs.declared.packets.Want.TheVariants.{Exactly}
 use Rattle.packet_frame.specs.declared.packets.FrameFault.{FrameFault}
 use Rattle.packet_frame.specs.declared.packets.FrameFault.TheVariants.{TooLarge, OutOfOrder, Memory as NoMemory}
-use Rattle.login_client.specs.Exchange.{EndsWithin, IsAtEnd, IsExchange, IsOpen, Moved, Stand, longest_payload}
+use Rattle.login_client.specs.Exchange.{EndsWithin, IsAtEnd, IsExchange, IsOpen, Moved, Stand}
+use Rattle.packet_stream.specs.declared.limits.TheConstants.{MAX_PAYLOAD}
 use Rattle.login_client.specs.Talk.{Talk, IsWaiting}
 use Rattle.login_client.specs.declared.ends.LoginEnd.{LoginEnd}
 use Rattle.login_client.specs.declared.ends.LoginEnd.TheVariants.{Framing as ByFraming, PeerClosed, LinkFault, Memory}
 
 -- a reader between two packets, at a place of the stream, that wants this id next
 abbrev pub between : (id place : ℕ) → Framing
-between id place = record { limit = longest_payload; want = Exactly id; start = place; held = [] }
+between id place = record { limit = MAX_PAYLOAD; want = Exactly id; start = place; held = [] }
 
 -- the most bytes of a packet, its header included
 abbrev pub longest_packet : ℕ
@@ -25,7 +26,7 @@ longest_packet = 1048580
 pub record ReadsPacket (id place : ℕ) (before after : Option Traffic) (packet : Packet) (now : Framing) : Type 0 where
   pub head : List ℕ
   pub moved : Moved before after head []
-  pub is_packet : IsPacket longest_payload (Exactly id) packet.first packet.last packet.payload head
+  pub is_packet : IsPacket MAX_PAYLOAD (Exactly id) packet.first packet.last packet.payload head
   pub short : length head ≤ longest_packet
   pub now_is : now ≡ between (id_after packet.last) (place + length head)
 
@@ -37,13 +38,13 @@ end_at (OutOfOrder at want got) = ByFraming (OutOfOrder at want got)
 
 -- no packet was read, since the login ended
 pub data Stops (id place : ℕ) (before after : Option Traffic) (Rises : Type 0) : LoginEnd → Type 0 where
-  framing : (got : List ℕ) (fault : FrameFault) → Moved before after got [] → IsFault longest_payload (Exactly id) place fault got
+  framing : (got : List ℕ) (fault : FrameFault) → Moved before after got [] → IsFault MAX_PAYLOAD (Exactly id) place fault got
       → Stops id place before after Rises (ByFraming fault)
-  closed : (got : List ℕ) (ending : Ending) → Moved before after got [] → IsEnding longest_payload (Exactly id) place got ending
+  closed : (got : List ℕ) (ending : Ending) → Moved before after got [] → IsEnding MAX_PAYLOAD (Exactly id) place got ending
       → IsOpen ending → IsAtEnd after → Stops id place before after Rises PeerClosed
-  failed : (got : List ℕ) (ending : Ending) → Moved before after got [] → IsEnding longest_payload (Exactly id) place got ending
+  failed : (got : List ℕ) (ending : Ending) → Moved before after got [] → IsEnding MAX_PAYLOAD (Exactly id) place got ending
       → Rises → Stops id place before after Rises LinkFault
-  no_memory : (got more : List ℕ) (ending : Ending) → Moved before after (got ++ more) [] → IsEnding longest_payload (Exactly id) place got ending
+  no_memory : (got more : List ℕ) (ending : Ending) → Moved before after (got ++ more) [] → IsEnding MAX_PAYLOAD (Exactly id) place got ending
       → Stops id place before after Rises Memory
 
 -- a packet was written, and `next` is the id behind it

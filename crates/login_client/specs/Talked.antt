@@ -3,7 +3,8 @@ use Rattle.std.specs.Prelude.{◌≡◌, ℕ, List, [], ◌∷◌, ◌++◌, len
 use Rattle.packet_frame.specs.Packets.{IsPacket}
 use Rattle.packet_frame.specs.Streams.{IsEnding}
 use Rattle.packet_frame.specs.declared.packets.Want.TheVariants.{Exactly}
-use Rattle.login_client.specs.Exchange.{Stand, Waits, Ends, longest_payload}
+use Rattle.login_client.specs.Exchange.{Stand, Waits, Ends}
+use Rattle.packet_stream.specs.declared.limits.TheConstants.{MAX_PAYLOAD}
 use Rattle.login_client.specs.Talk.{Talk, Leads, result_of}
 use Rattle.login_client.specs.declared.ends.ClientAct.{ClientAct}
 use Rattle.login_client.specs.declared.ends.ClientAct.TheVariants.{Send, Done}
@@ -24,13 +25,13 @@ AreWritten (payload ∷ payloads) bytes =
 -- what stands behind the packets: nothing where the talk is over, and else an ending
 abbrev pub IsRest : List ℕ → Stand → Type 0
 IsRest bytes (Ends end) = bytes ≡ []
-IsRest bytes (Waits ending) = (id place : ℕ) × IsEnding longest_payload (Exactly id) place bytes ending
+IsRest bytes (Waits ending) = (id place : ℕ) × IsEnding MAX_PAYLOAD (Exactly id) place bytes ending
 
 -- the bytes are packets with these payloads, laid end to end, and that
 abbrev pub AreGot : List (List ℕ) → List ℕ → Stand → Type 0
 AreGot [] bytes stand = IsRest bytes stand
 AreGot (payload ∷ payloads) bytes stand =
-    (wanted first last : ℕ) × (text rest : List ℕ) × (bytes ≡ text ++ rest) × IsPacket longest_payload (Exactly wanted) first last payload text × AreGot payloads rest stand
+    (wanted first last : ℕ) × (text rest : List ℕ) × (bytes ≡ text ++ rest) × IsPacket MAX_PAYLOAD (Exactly wanted) first last payload text × AreGot payloads rest stand
 
 abbrev pub result_in : Stand → Option LoginEnd
 result_in (Waits ending) = None

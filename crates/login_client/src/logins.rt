@@ -18,10 +18,8 @@ use crate::ends::{ClientAct, LoginEnd};
 use lg_base::{Memory, Out};
 use lg_outside::Link;
 use packet_frame::{FrameFault, Frames, Packet, Want, write_packet};
+use packet_stream::MAX_PAYLOAD;
 use std::alloc::Global;
-
-/// The most bytes of a payload.
-const LONGEST_PAYLOAD: u32 = 1_048_576;
 
 /// The most packets of a server in a login: the greeting, a switch, more data, two further factors, OK or ERR.
 const MOST_PACKETS: u32 = 6;
@@ -164,7 +162,7 @@ pub fn login<L: Link>(
         Ok(client) => client,
         Err(Memory) => return LoginEnd::Memory,
     };
-    let mut frames = Frames::new(alloc, LONGEST_PAYLOAD, Want::Exactly(0));
+    let mut frames = Frames::new(alloc, MAX_PAYLOAD, Want::Exactly(0));
     'turns: for _count in 0..MOST_PACKETS {
         match turn(alloc, link, &mut client, &mut frames) {
             Some(end) => return end,

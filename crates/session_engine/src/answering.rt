@@ -2,13 +2,12 @@
 
 ghost use Rattle.session_engine.specs.Standing.{talk_of};
 ghost use Rattle.session_talk.specs.Turns as turn;
-ghost use Rattle.session_talk.specs.Turns.{id_behind, id_behind_all, is_salt_byte, has_few_labels};
+ghost use Rattle.session_talk.specs.Turns.{is_salt_byte, has_few_labels};
 ghost use Rattle.std.specs.Prelude.{◌≡◌};
 ghost use Rattle.packet_frame.specs.Packets as frame;
 
 use crate::phases::Phase;
 use factor_chain::Look;
-use lg_base::Bytes;
 use packet_frame::Packet;
 use session_talk::{Input, SessionEnd};
 
@@ -69,9 +68,6 @@ fn is_draw(input: &Input) -> bool
     }
 }
 
-/// The most bytes of a piece of a payload.
-const FULL: usize = 16_777_215;
-
 impl Phase {
     /// Whether an input is of the kind that is waited for.
     #[tactic(auto, unfolding(crate::specs::Standing::talk_of, session_talk::specs::Turns::is_answer))]
@@ -101,25 +97,6 @@ fn id_after(id: u8) -> u8
     ensures { result ≡ frame.id_after id }
 {
     id.wrapping_add(1)
-}
-
-/// The sequence id that comes after a payload.
-fn id_behind_payload(first: u8, payload: &[u8]) -> u8
-    ensures { result ≡ id_behind first payload.now }
-{
-    let pieces = (payload.len() / FULL % 256) as u8;
-    first.wrapping_add(pieces).wrapping_add(1)
-}
-
-/// The sequence id that comes after some payloads.
-pub fn id_behind_payloads(first: u8, payloads: &[Bytes]) -> u8
-    ensures { result ≡ id_behind_all first payloads.now }
-{
-    let mut next = first;
-    'payloads: for payload in payloads {
-        next = id_behind_payload(next, payload.as_slice());
-    }
-    next
 }
 
 impl Phase {

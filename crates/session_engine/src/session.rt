@@ -5,11 +5,11 @@ ghost use Rattle.session_talk.specs.Logins as login;
 ghost use Rattle.session_talk.specs.Turns.{or_read};
 ghost use Rattle.std.specs.Prelude.{◌≡◌};
 
-use crate::answering::id_behind_payloads;
 use crate::going_on::go_on;
 use crate::phases::Phase;
 use crate::steps::Step;
 use lg_base::Memory;
+use packet_stream::id_behind_all;
 use session_talk::{Action, Ask, Input, SessionEnd};
 use std::alloc::Global;
 use std::mem;
@@ -61,7 +61,7 @@ impl Session {
         let first = self.phase.first_id(self.next, &input);
         let phase = mem::replace(&mut self.phase, Phase::Over(SessionEnd::Memory));
         let Step { send, ask, phase } = go_on(self.alloc, phase, input)?;
-        let next = id_behind_payloads(first, send.as_slice());
+        let next = id_behind_all(first, send.as_slice());
         let want = phase.wanted(next);
         self.next = next;
         self.phase = phase;

@@ -8,8 +8,9 @@ use Rattle.session_talk.specs.declared.ends.SessionEnd.TheVariants as end
 use Rattle.session_talk.specs.declared.inputs.Input.{Input}
 use Rattle.session_talk.specs.declared.inputs.Input.TheVariants as input
 use Rattle.session_talk.specs.Laws.{RunsEndAsOwed}
-use Rattle.session_talk.specs.Owed.{Owed, Sent, after_all_sent, owed}
-use Rattle.session_talk.specs.Runs.{AllAnswer, EachAnswers, IsLive, IsOpen, Standing, ending_by, owns_in, packets_in, sent_from, sent_on, spoken, stands_after, stands_on}
+use Rattle.session_talk.specs.Owed.{Owed, after_all_sent, owed}
+use Rattle.packet_stream.specs.Sent.{Sent, sent_from}
+use Rattle.session_talk.specs.Runs.{AllAnswer, EachAnswers, IsLive, IsOpen, Standing, ending_by, owns_in, packets_in, sent_on, spoken, stands_after, stands_on}
 use Rattle.session_talk.specs.Talk.{Talk, Hears, Draws, Over}
 use Rattle.session_talk.specs.Turns.{IsAsked, faulted, heard, is_answer, rest, said, wanted_by}
 use Rattle.session_talk.proofs.Running.{at, runs_are_owed, untrue}

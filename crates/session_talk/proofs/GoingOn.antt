@@ -3,7 +3,7 @@ use Rattle.std.proofs.Common.{refl, ap, ◌∷◌}
 use Rattle.session_talk.specs.Laws.{OwedGoesOn, StaleChangesNothing}
 use Rattle.session_talk.specs.Owed.{Drew, Saw, Late, Did, after_sent, owed}
 use Rattle.session_talk.specs.Talk.{Says, Hears, Draws, Looks, Checks, Settles, SettlesLocked}
-use Rattle.session_talk.specs.Turns.{id_behind}
+use Rattle.packet_stream.specs.Sent.{id_behind}
 use Rattle.packet_frame.specs.Packets.{id_after}
 
 pub owed_goes_on : OwedGoesOn

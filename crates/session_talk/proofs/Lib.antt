@@ -7,7 +7,6 @@ pub mod Running
 pub mod Ending
 pub mod Following
 pub mod Transcribing
-pub mod Heads
 pub mod Transcripts
 pub mod Coming
 pub mod Tying

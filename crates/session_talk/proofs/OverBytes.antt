@@ -1,28 +1,17 @@
 -- What is owed over bytes goes on, however they are cut.
-use Rattle.std.proofs.Common.{◌≡◌, refl, ap, ◌∙◌, ℕ, ◌+◌, ◌-◌, List, ◌∷◌, ◌++◌, length, length-append, arith}
+use Rattle.std.proofs.Common.{◌≡◌, refl, ap, ◌∙◌, ℕ, List, ◌∷◌, ◌++◌}
 use Rattle.packet_frame.specs.Front.{Front, Whole, Part, Fault, StaysWith}
 use Rattle.packet_frame.specs.Packets.{id_after}
 use Rattle.packet_frame.specs.declared.packets.FrameFault.{FrameFault}
 use Rattle.packet_frame.specs.declared.packets.FrameFault.TheVariants.{TooLarge, OutOfOrder, Memory as NoMemory}
-use Rattle.packet_frame.specs.declared.packets.Want.TheVariants.{Exactly}
-use Rattle.packet_frame.proofs.Longer.{front-stays}
-use Rattle.session_talk.specs.Laws.{WiredGoesOn, with_more}
+use Rattle.packet_stream.proofs.Longer.{behind_more, stays}
+use Rattle.session_talk.specs.Laws.{WiredGoesOn}
+use Rattle.packet_stream.specs.Streams.{Stream, behind_of, by_front, front_of, with_more}
 use Rattle.session_talk.specs.Owed.{Own, Drew, Saw, Late, Did}
 use Rattle.session_talk.specs.Talk.{Says, Hears, Draws, Looks, Checks, Settles, SettlesLocked}
-use Rattle.session_talk.specs.Turns.{faulted, id_behind, wanted}
-use Rattle.session_talk.specs.Wired.{Stream, Wired, after_all_sent, after_sent, behind_of, by_front, front_of, most_payload, said_from, stops, wired}
-
-stays : (stream : Stream) (more : List ℕ) (want : ℕ) → StaysWith more (front_of want stream) (front_of want (with_more stream more))
-stays stream more want = front-stays (length stream.bytes) most_payload (Exactly want) stream.place stream.bytes more (omega arith)
-
--- the stream behind a packet, with more bytes
-behind_more : (stream : Stream) (behind more : List ℕ) → behind_of (with_more stream more) (behind ++ more) ≡ with_more (behind_of stream behind) more
-behind_more stream behind more = ap (λ (place : ℕ). record { place = place; bytes = behind ++ more })
-    (same (length-append stream.bytes more) (length-append behind more))
-  where
-    same : length (stream.bytes ++ more) ≡ length stream.bytes + length more → length (behind ++ more) ≡ length behind + length more →
-        stream.place + (length (stream.bytes ++ more) - length (behind ++ more)) ≡ stream.place + (length stream.bytes - length behind)
-    same e f = omega (arith, e, f)
+use Rattle.session_talk.specs.Turns.{faulted, wanted}
+use Rattle.packet_stream.specs.Sent.{id_behind}
+use Rattle.session_talk.specs.Wired.{Wired, after_all_sent, after_sent, said_from, stops, wired}
 
 -- the talk of a fault of framing is over, whatever follows
 faulted_on : (next : ℕ) (fault : FrameFault) (stream : Stream) (more : List ℕ) (owns others : List Own) →

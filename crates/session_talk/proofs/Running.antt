@@ -4,10 +4,11 @@ use Rattle.packet_frame.specs.declared.packets.Packet.{Packet}
 use Rattle.session_talk.specs.declared.inputs.Input.{Input}
 use Rattle.session_talk.specs.declared.inputs.Input.TheVariants as input
 use Rattle.session_talk.specs.Laws.{RunsAreOwed}
-use Rattle.session_talk.specs.Owed.{Own, Owed, Sent, after_all_sent, after_sent, owed}
-use Rattle.session_talk.specs.Runs.{AllAnswer, Standing, owns_in, packets_in, sent_from, sent_on, spoken, stands_after, stands_on}
+use Rattle.session_talk.specs.Owed.{Own, Owed, after_all_sent, after_sent, owed}
+use Rattle.packet_stream.specs.Sent.{Sent, id_behind, id_behind_all, sent_from}
+use Rattle.session_talk.specs.Runs.{AllAnswer, Standing, owns_in, packets_in, sent_on, spoken, stands_after, stands_on}
 use Rattle.session_talk.specs.Talk.{Talk, Says, Hears, Draws, Looks, Checks, Settles, SettlesLocked, Over}
-use Rattle.session_talk.specs.Turns.{first_id, heard, id_behind, id_behind_all, is_answer, rest, said}
+use Rattle.session_talk.specs.Turns.{first_id, heard, is_answer, rest, said}
 
 -- what a talk says first is owed first
 said_owed : (next : ℕ) (t : Talk) (packets : List Packet) (owns : List Own) →

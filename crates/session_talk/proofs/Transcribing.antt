@@ -17,12 +17,14 @@ use Rattle.session_talk.specs.declared.ends.SessionEnd.TheVariants as end
 use Rattle.session_talk.specs.declared.inputs.Input.{Input}
 use Rattle.session_talk.specs.declared.inputs.Input.TheVariants as input
 use Rattle.session_talk.specs.Given.{Given, IsDone, end_in}
-use Rattle.session_talk.specs.Owed.{Own, Drew, Saw, Late, Did, Sent}
-use Rattle.session_talk.specs.Runs.{EachAnswers, owns_in, packets_in, sent_from, spoken, stands_after, stands_on}
+use Rattle.session_talk.specs.Owed.{Own, Drew, Saw, Late, Did}
+use Rattle.packet_stream.specs.Sent.{Sent, id_behind, id_behind_all, sent_from}
+use Rattle.session_talk.specs.Runs.{EachAnswers, owns_in, packets_in, spoken, stands_after, stands_on}
 use Rattle.session_talk.specs.Talk.{Talk, Says, Hears, Draws, Looks, Checks, Settles, SettlesLocked, Over}
 use Rattle.session_talk.specs.Transcript.{Enters, Open, Peer, Reading, after_packet, by_packet, ended, read_of}
-use Rattle.session_talk.specs.Turns.{asked, faulted, first_id, heard, id_behind, id_behind_all, is_answer, question, rest, said, wanted, wanted_by}
-use Rattle.session_talk.specs.Wired.{Stream, Wired, behind_of, by_front, front_of, said_from, stops, wired}
+use Rattle.session_talk.specs.Turns.{asked, faulted, first_id, heard, is_answer, question, rest, said, wanted, wanted_by}
+use Rattle.session_talk.specs.Wired.{Wired, said_from, stops, wired}
+use Rattle.packet_stream.specs.Streams.{Stream, behind_of, by_front, front_of}
 use Rattle.session_talk.proofs.Running.{at, untrue}
 use Rattle.session_talk.proofs.Following.{Follows, rest_follows}
 

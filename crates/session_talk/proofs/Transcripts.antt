@@ -9,15 +9,16 @@ use Rattle.session_talk.specs.declared.actions.Ask.{Ask}
 use Rattle.session_talk.specs.declared.actions.Ask.TheVariants as ask
 use Rattle.session_talk.specs.declared.inputs.Input.{Input}
 use Rattle.session_talk.specs.declared.inputs.Input.TheVariants as input
-use Rattle.session_talk.specs.Given.{Given, IsDone, Transcribes, all_of, asked_after, begins}
+use Rattle.session_talk.specs.Given.{Given, IsDone, Transcribes, asked_after, begins}
+use Rattle.packet_stream.specs.Streams.{Stream, all_of}
 use Rattle.session_talk.specs.Laws.{RunsAreTranscripts}
 use Rattle.session_talk.specs.Logins.{session}
 use Rattle.session_talk.specs.Runs.{AllAnswer, EachAnswers, Standing, owns_in, stands_on}
 use Rattle.session_talk.specs.Transcript.{Open, Peer}
 use Rattle.session_talk.specs.Turns.{wanted_by}
-use Rattle.session_talk.specs.Wired.{Stream, most_payload}
+use Rattle.packet_stream.specs.declared.limits.TheConstants.{MAX_PAYLOAD}
 use Rattle.session_talk.proofs.Following.{session_follows}
-use Rattle.session_talk.proofs.Heads.{Cuts, front-cuts}
+use Rattle.packet_stream.proofs.Heads.{Cuts, front-cuts}
 use Rattle.session_talk.proofs.Transcribing.{run}
 
 -- ## All the bytes
@@ -57,8 +58,8 @@ module _ (peer : Peer) (left : Stream) where
       let want = wanted_by s.next s.at in
       let behind = given.3.0 in
       let read = later.0 in
-      let cut = subst (Cuts (front most_payload (Exactly want) stream.place) stream.bytes) given.3.1
-      (front-cuts (length stream.bytes) most_payload (Exactly want) stream.place stream.bytes (omega arith)) in (
+      let cut = subst (Cuts (front MAX_PAYLOAD (Exactly want) stream.place) stream.bytes) given.3.1
+      (front-cuts (length stream.bytes) MAX_PAYLOAD (Exactly want) stream.place stream.bytes (omega arith)) in (
         cut.0 ++ read,
         cut.1 ∙ ap (λ (bytes : List ℕ). cut.0 ++ bytes) (sym (ap (λ (b : Stream). b.bytes) given.3.3) ∙ later.1) ∙ sym (append_assoc cut.0 read left.bytes),
         (
@@ -104,7 +105,7 @@ module _ (peer : Peer) (left : Stream) where
 
 -- nothing more comes where no bytes are left and the peer is open
 none_left : (place : ℕ) (a : Ask) → IsDone Open a (nothing_at place)
-none_left place (ask.Read want) = (refl, (4, front-nothing most_payload (Exactly want) place))
+none_left place (ask.Read want) = (refl, (4, front-nothing MAX_PAYLOAD (Exactly want) place))
 none_left place a = tt
 
 pub runs_are_transcripts : RunsAreTranscripts

@@ -4,11 +4,13 @@ use Rattle.packet_frame.specs.Front.{Front, Whole, Part, Fault}
 use Rattle.packet_frame.specs.Packets.{id_after}
 use Rattle.packet_frame.specs.declared.packets.FrameFault.{FrameFault}
 use Rattle.session_talk.specs.Owed as owing
-use Rattle.session_talk.specs.Owed.{Own, Drew, Saw, Late, Did, Owed, Sent, owed}
+use Rattle.session_talk.specs.Owed.{Own, Drew, Saw, Late, Did, Owed, owed}
+use Rattle.packet_stream.specs.Sent.{Sent, id_behind}
 use Rattle.session_talk.specs.Talk.{Talk, Says, Hears, Draws, Looks, Checks, Settles, SettlesLocked}
 use Rattle.session_talk.specs.Transcript.{Reading, WiredIsOwed, after_packet, by_packet, fault_at, fault_in, read_of, told_fault}
-use Rattle.session_talk.specs.Turns.{faulted, id_behind, wanted}
-use Rattle.session_talk.specs.Wired.{Stream, Wired, after_sent, behind_of, by_front, front_of, said_from, stops, wired}
+use Rattle.session_talk.specs.Turns.{faulted, wanted}
+use Rattle.session_talk.specs.Wired.{Wired, after_sent, said_from, stops, wired}
+use Rattle.packet_stream.specs.Streams.{Stream, behind_of, by_front, front_of}
 
 -- a payload that is sent first
 sent_first : (first : Sent) (fault : Option FrameFault) (o : Owed) (stream : Stream) →

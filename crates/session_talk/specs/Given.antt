@@ -1,7 +1,7 @@
 -- What a session is given: by the bytes of its peer and by what comes behind them, packets and the end of reading, and
 -- by the entries of the history, what its own side is answered.
 use Rattle.std.specs.Prelude.{◌≡◌, ℕ, ◌==◌, not, List, [], ◌∷◌, ◌++◌, length, Option, Some, None}
-use Rattle.packet_frame.specs.Front.{Whole, Part, Fault}
+use Rattle.packet_frame.specs.Front.{Whole, Fault}
 use Rattle.account_history.specs.declared.entries.Entry.{Entry}
 use Rattle.account_history.specs.declared.entries.Entry.TheVariants.{Observed, Attempted}
 use Rattle.session_talk.specs.declared.actions.Ask.{Ask}
@@ -14,13 +14,9 @@ use Rattle.session_talk.specs.Runs.{Standing, owns_in, packets_in, spoken, stand
 use Rattle.session_talk.specs.Talk.{Talk, Looks, Settles, SettlesLocked}
 use Rattle.session_talk.specs.Transcript.{Closed, Failed, Open, Peer, Transcript, read_of}
 use Rattle.session_talk.specs.Turns.{asked, wanted_by}
-use Rattle.session_talk.specs.Wired.{Stream, behind_of, front_of}
+use Rattle.packet_stream.specs.Streams.{IsShort, Stream, all_of, behind_of, front_of}
 
 -- ## Reading
-
--- less than a packet stands at the front
-abbrev pub IsShort : (want : ℕ) → Stream → Type 0
-IsShort want stream = (missing : ℕ) × (front_of want stream ≡ Part missing)
 
 -- What reading gives, where a packet with this id is wanted: the packet at the front of the bytes, or the fault that
 -- stands there. Where less than a packet stands there, it may give the peer's end, which cuts a packet exactly where
@@ -72,10 +68,6 @@ end_in _ = None
 -- a session of this number begins
 abbrev pub begins : (id : ℕ) → Standing
 begins id = record { next = 0; at = session id }
-
--- a stream from its begin on
-abbrev pub all_of : List ℕ → Stream
-all_of bytes = record { place = 0; bytes = bytes }
 
 -- what a session of this number asks for after these inputs
 abbrev pub asked_after : (id : ℕ) → List Input → Ask

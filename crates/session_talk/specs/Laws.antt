@@ -8,16 +8,18 @@ use Rattle.account_history.specs.declared.entries.Entry.{Entry}
 use Rattle.account_history.specs.declared.entries.Reply.{Reply}
 use Rattle.session_talk.specs.Bounds.{Within}
 use Rattle.session_talk.specs.Conversation.{Conversation, Goes, Move, Sent as Send, Settled}
-use Rattle.session_talk.specs.Given.{Given, IsDone, Reads, Transcribes, all_of, asked_after, begins}
+use Rattle.session_talk.specs.Given.{Given, IsDone, Reads, Transcribes, asked_after, begins}
+use Rattle.packet_stream.specs.Streams.{Stream, all_of, with_more}
 use Rattle.session_talk.specs.Logins.{session, settling}
 use Rattle.session_talk.specs.Owed as owing
 use Rattle.session_talk.specs.Owed.{Own, Late, Saw, Did, owed}
-use Rattle.session_talk.specs.Runs.{AllAnswer, EachAnswers, Standing, ending_by, owns_in, packets_in, sent_from, spoken, stands_after}
+use Rattle.session_talk.specs.Runs.{AllAnswer, EachAnswers, Standing, ending_by, owns_in, packets_in, spoken, stands_after}
+use Rattle.packet_stream.specs.Sent.{sent_from}
 use Rattle.session_talk.specs.Talk.{Talk}
 use Rattle.session_talk.specs.Transcript.{Open, Peer}
 use Rattle.session_talk.specs.Turns.{Answers, IsAsked, IsBegun, IsFitting, asked, is_answer, is_read, rest, said, wanted_by}
 use Rattle.session_talk.specs.Wired as wiring
-use Rattle.session_talk.specs.Wired.{Stream, wired}
+use Rattle.session_talk.specs.Wired.{wired}
 use Rattle.session_talk.specs.declared.actions.Ask.TheVariants as ask
 use Rattle.session_talk.specs.declared.attempts.Attempting.{Attempting}
 use Rattle.session_talk.specs.declared.inputs.Input.{Input}
@@ -30,9 +32,6 @@ OwedGoesOn =
     let before = owed next t packets owns in
     owed next t (packets ++ more) (owns ++ others)
     ≡ owing.after_all_sent before.sent (owed before.next before.at (before.unread ++ more) (before.unused ++ others))
-
-abbrev pub with_more : Stream → List ℕ → Stream
-with_more stream more = record stream { bytes = stream.bytes ++ more }
 
 -- The same over bytes, however they are cut.
 abbrev pub WiredGoesOn : Type 0

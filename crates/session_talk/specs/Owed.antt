@@ -6,7 +6,7 @@ use Rattle.packet_frame.specs.declared.packets.Packet.{Packet}
 use Rattle.factor_chain.specs.declared.credentials.Look.{Look}
 use Rattle.account_history.specs.declared.entries.Reply.{Reply}
 use Rattle.session_talk.specs.Talk.{Talk, Says, Hears, Draws, Looks, Checks, Settles, SettlesLocked}
-use Rattle.session_talk.specs.Turns.{id_behind}
+use Rattle.packet_stream.specs.Sent.{Sent, id_behind}
 
 -- what the server's side of a session is answered, in order: nonces by the draws, and looks, stale answers and replies
 -- by the account store
@@ -15,11 +15,6 @@ pub data Own : Type 0 where
   Saw : Look → Own
   Late : Own
   Did : Reply → Own
-
--- a payload with the sequence id of its first packet
-pub record Sent : Type 0 where
-  pub first : ℕ
-  pub payload : List ℕ
 
 -- the payloads that are sent, the id of the next packet, where the talk stands, and what wasn't come to
 pub record Owed : Type 0 where

@@ -4,14 +4,10 @@ use Rattle.packet_frame.specs.declared.packets.Packet.{Packet}
 use Rattle.session_talk.specs.declared.ends.SessionEnd.TheVariants as end
 use Rattle.session_talk.specs.declared.inputs.Input.{Input}
 use Rattle.session_talk.specs.declared.inputs.Input.TheVariants as input
-use Rattle.session_talk.specs.Owed.{Own, Drew, Saw, Late, Did, Sent}
+use Rattle.session_talk.specs.Owed.{Own, Drew, Saw, Late, Did}
+use Rattle.packet_stream.specs.Sent.{Sent, id_behind_all, sent_from}
 use Rattle.session_talk.specs.Talk.{Talk, Over}
-use Rattle.session_talk.specs.Turns.{IsAsked, faulted, first_id, heard, id_behind, id_behind_all, is_answer, rest, said}
-
--- payloads with their ids, where the first one has an id
-abbrev pub sent_from : (first : ℕ) → List (List ℕ) → List Sent
-sent_from first [] = []
-sent_from first (payload ∷ payloads) = record { first = first; payload = payload } ∷ sent_from (id_behind first payload) payloads
+use Rattle.session_talk.specs.Turns.{IsAsked, faulted, first_id, heard, is_answer, rest, said}
 
 -- a talk at its question, and the id of the next packet
 pub record Standing : Type 0 where

@@ -10,10 +10,12 @@ use Rattle.account_history.specs.declared.entries.Entry.TheVariants.{Observed, A
 use Rattle.session_talk.specs.declared.ends.SessionEnd.{SessionEnd}
 use Rattle.session_talk.specs.declared.ends.SessionEnd.TheVariants as end
 use Rattle.session_talk.specs.Logins.{session}
-use Rattle.session_talk.specs.Owed.{Own, Drew, Saw, Late, Did, Owed, Sent, owed}
+use Rattle.session_talk.specs.Owed.{Own, Drew, Saw, Late, Did, Owed, owed}
+use Rattle.packet_stream.specs.Sent.{Sent, id_behind}
 use Rattle.session_talk.specs.Talk.{Talk, Says, Hears, Draws, Looks, Checks, Settles, SettlesLocked, Over}
-use Rattle.session_talk.specs.Turns.{faulted, id_behind, wanted}
-use Rattle.session_talk.specs.Wired.{Stream, Wired, after_all_sent, behind_of, front_of, said_from, stops, wired}
+use Rattle.session_talk.specs.Turns.{faulted, wanted}
+use Rattle.session_talk.specs.Wired.{Wired, after_all_sent, said_from, stops, wired}
+use Rattle.packet_stream.specs.Streams.{Stream, behind_of, front_of}
 
 -- ## The packets among the bytes
 

@@ -1,5 +1,5 @@
 -- One turn of a session: what is said before the next question, the question, and what an answer leads to.
-use Rattle.std.specs.Prelude.{◌≡◌, IsTrue, ℕ, ◌+◌, ◌/◌, ◌%◌, nat_le, Bool, true, false, if◌then◌else◌, List, [], ◌∷◌, length, Option, Some, None}
+use Rattle.std.specs.Prelude.{◌≡◌, IsTrue, ℕ, nat_le, Bool, true, false, if◌then◌else◌, List, [], ◌∷◌, length, Option, Some, None}
 use Rattle.std.specs.List.{list_all}
 use Rattle.lg_base.specs.declared.errors.Code.TheVariants as code
 use Rattle.packet_frame.specs.Packets.{id_after}
@@ -14,6 +14,7 @@ use Rattle.session_talk.specs.declared.ends.SessionEnd.TheVariants as end
 use Rattle.session_talk.specs.declared.inputs.Input.{Input}
 use Rattle.session_talk.specs.declared.inputs.Input.TheVariants as input
 use Rattle.session_talk.specs.Logins.{broken}
+use Rattle.packet_stream.specs.Sent.{id_behind_all}
 use Rattle.session_talk.specs.Talk.{Talk, Says, Hears, Draws, Looks, Checks, Settles, SettlesLocked, Over}
 
 -- ## Sequence ids
@@ -22,14 +23,6 @@ use Rattle.session_talk.specs.Talk.{Talk, Says, Hears, Draws, Looks, Checks, Set
 abbrev pub wanted : (anew : Bool) → (next : ℕ) → ℕ
 wanted true next = 0
 wanted false next = next
-
--- the id that comes after a payload: one for each piece of at most 16,777,215 bytes, and wrapping from 255 to 0
-abbrev pub id_behind : (first : ℕ) → List ℕ → ℕ
-id_behind first payload = (first + length payload / 16777215 + 1) % 256
-
-abbrev pub id_behind_all : (first : ℕ) → List (List ℕ) → ℕ
-id_behind_all first [] = first
-id_behind_all first (payload ∷ payloads) = id_behind_all (id_behind first payload) payloads
 
 -- ## Saying
 

@@ -1,22 +1,12 @@
 -- The same over bytes: what a session owes for the bytes that its peer has sent, in packets, and what its own side has
 -- answered. A fault of framing where a packet is waited for is told and ends the session.
-use Rattle.std.specs.Prelude.{ℕ, ◌+◌, ◌-◌, List, [], ◌∷◌, ◌++◌, length}
-use Rattle.packet_frame.specs.Front.{Front, Whole, Part, Fault, front}
+use Rattle.std.specs.Prelude.{ℕ, List, [], ◌∷◌, ◌++◌}
 use Rattle.packet_frame.specs.Packets.{id_after}
-use Rattle.packet_frame.specs.declared.packets.FrameFault.{FrameFault}
-use Rattle.packet_frame.specs.declared.packets.Want.TheVariants.{Exactly}
-use Rattle.session_talk.specs.Owed.{Own, Drew, Saw, Late, Did, Sent}
+use Rattle.session_talk.specs.Owed.{Own, Drew, Saw, Late, Did}
+use Rattle.packet_stream.specs.Sent.{Sent, id_behind}
 use Rattle.session_talk.specs.Talk.{Talk, Says, Hears, Draws, Looks, Checks, Settles, SettlesLocked}
-use Rattle.session_talk.specs.Turns.{faulted, id_behind, wanted}
-
--- the greatest payload that a session takes
-abbrev pub most_payload : ℕ
-most_payload = 1048576
-
--- bytes of a stream from a place on
-pub record Stream : Type 0 where
-  pub place : ℕ
-  pub bytes : List ℕ
+use Rattle.session_talk.specs.Turns.{faulted, wanted}
+use Rattle.packet_stream.specs.Streams.{Stream, behind_of, by_front, front_of}
 
 -- the payloads that are sent, the id of the next packet, where the talk stands, and the bytes and answers that weren't
 -- come to
@@ -40,20 +30,6 @@ stops next t stream owns = record { sent = []; next = next; at = t; unread = str
 unfoldable pub said_from : (next : ℕ) → Talk → Stream → List Own → Wired
 said_from next (Says payload t) stream owns = after_sent (record { first = next; payload = payload }) (said_from (id_behind next payload) t stream owns)
 said_from next t stream owns = stops next t stream owns
-
--- by what stands at the front of the bytes: a packet, less than one, or a fault
-
-abbrev pub by_front : (ℕ → List ℕ → List ℕ → Wired) → Wired → (FrameFault → Wired) → Front → Wired
-by_front whole part fault (Whole first last payload behind) = whole last payload behind
-by_front whole part fault (Part missing) = part
-by_front whole part fault (Fault found) = fault found
-
-abbrev pub front_of : (wanted : ℕ) → Stream → Front
-front_of wanted stream = front most_payload (Exactly wanted) stream.place stream.bytes
-
--- the stream behind a packet
-abbrev pub behind_of : Stream → List ℕ → Stream
-behind_of stream behind = record { place = stream.place + (length stream.bytes - length behind); bytes = behind }
 
 unfoldable pub wired : (next : ℕ) → Talk → Stream → List Own → Wired
 wired next (Says payload t) stream owns =

@@ -4,7 +4,7 @@
 //! peer sends and what the account store answers.** The definitions stand in `specs/`: the talk by the parts of a
 //! login, what is owed for payloads and answers, the same over bytes, what bytes and entries give to a session, and a
 //! login as a relation on its moves. This crate has no code but the types of inputs and actions and the laws of the
-//! model. Below it stand `account_history`, `auth_packets` and `packet_frame`.
+//! model. Below it stand `account_history`, `auth_packets` and `packet_stream`.
 //!
 //! MySQL client/server protocol documentation, "Connection Phase" and "Command Phase".
 #![tactic(auto)]

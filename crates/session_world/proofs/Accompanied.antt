@@ -3,10 +3,10 @@ use Rattle.std.proofs.Common.{◌≡◌, ◌≢◌, refl, ap, sym, ◌∙◌, su
 use Rattle.std.proofs.lemmas.Bool.Decides.{eqb_tells}
 use Rattle.std.proofs.lemmas.List.{take-append-drop}
 use Rattle.session_talk.specs.Logins.{session}
-use Rattle.session_talk.specs.Owed.{Sent}
+use Rattle.packet_stream.specs.Sent.{Sent}
 use Rattle.login_client.specs.declared.claims.Claim.{Claim}
 use Rattle.login_client.specs.declared.ends.LoginEnd.{LoginEnd}
-use Rattle.client_wire.specs.Packing.{packet_text, packets_text}
+use Rattle.packet_stream.specs.Packing.{packet_text, packets_text}
 use Rattle.script_text.specs.declared.event.Event.{Event}
 use Rattle.script_text.specs.declared.event.Event.TheVariants as event
 use Rattle.world_table.specs.Printing.{Idle, Line}
@@ -21,7 +21,8 @@ use Rattle.session_world.specs.Events.{all_doings}
 use Rattle.session_world.specs.Going.{Gone, going}
 use Rattle.session_world.specs.Lines.{sends_in}
 use Rattle.session_world.specs.Replays.{Came, Printed, Replay, after_events, all_down, all_up, alters, begins, begun_with, brings, cut_off, cuts_off, doing, downs, followed_by, gets, happens, idles, is_cut_off, is_in, most_turns, nothing, running, runs, sends, task, task_of, turns, ups, writes}
-use Rattle.client_wire.specs.UnderWay.{Client, claim_of, client_after, has_bytes, new_client, sent_to, with_client}
+use Rattle.client_wire.specs.UnderWay.{Client, claim_of, client_after, new_client, sent_to, with_client}
+use Rattle.packet_stream.specs.Queue.{has_bytes}
 use Rattle.session_world.specs.Transcripts.{bytes_of, lines_of, session_bytes, session_lines}
 use Rattle.session_world.specs.Worlds.{Doing, GoesOn, IsIdle, Move, Place, ToCall, ToIdle, ToLeave, ToOpen, ToSend, ToSet, World, after_all, calling, does, is_over, is_over_at, is_there, is_there_at, leaving, move, moved, no_bytes, opening, place_of, sending, waits, waits_at}
 use Rattle.session_world.proofs.Doing.{after_append, each_append}

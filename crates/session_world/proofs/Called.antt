@@ -6,8 +6,9 @@ use Rattle.packet_frame.specs.declared.packets.FrameFault.{FrameFault}
 use Rattle.packet_frame.specs.declared.packets.FrameFault.TheVariants.{TooLarge, OutOfOrder, Memory as NoMemory}
 use Rattle.account_history.specs.declared.entries.Entry.TheVariants.{Observed}
 use Rattle.session_talk.specs.Talk.{Talk, Says, Hears, Draws, Looks, Checks, Settles, SettlesLocked, Over}
-use Rattle.session_talk.specs.Turns.{faulted, id_behind, wanted}
-use Rattle.session_talk.specs.Wired.{Stream, behind_of, front_of}
+use Rattle.session_talk.specs.Turns.{faulted, wanted}
+use Rattle.packet_stream.specs.Sent.{id_behind}
+use Rattle.packet_stream.specs.Streams.{Stream, behind_of, front_of}
 use Rattle.session_world.specs.declared.calls.Calls.TheVariants.{All}
 use Rattle.session_world.specs.declared.calls.Peer.{Peer}
 use Rattle.session_world.specs.declared.calls.Peer.TheVariants.{Open, Closed, Failed}

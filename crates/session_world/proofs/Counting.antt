@@ -7,11 +7,14 @@ use Rattle.packet_frame.specs.declared.packets.FrameFault.{FrameFault}
 use Rattle.packet_frame.specs.declared.packets.FrameFault.TheVariants.{TooLarge, OutOfOrder, Memory as NoMemory}
 use Rattle.factor_chain.specs.declared.credentials.Look.{Look}
 use Rattle.account_history.specs.declared.entries.Reply.{Reply}
-use Rattle.session_talk.specs.Owed.{Own, Drew, Saw, Late, Did, Sent}
+use Rattle.session_talk.specs.Owed.{Own, Drew, Saw, Late, Did}
+use Rattle.packet_stream.specs.Sent.{Sent, id_behind}
 use Rattle.session_talk.specs.Talk.{Talk, Says, Hears, Draws, Looks, Checks, Settles, SettlesLocked, Over}
-use Rattle.session_talk.specs.Turns.{faulted, id_behind, wanted}
+use Rattle.session_talk.specs.Turns.{faulted, wanted}
 use Rattle.session_talk.specs.Wired as wiring
-use Rattle.session_talk.specs.Wired.{Stream, Wired, behind_of, front_of, most_payload, said_from, wired}
+use Rattle.session_talk.specs.Wired.{Wired, said_from, wired}
+use Rattle.packet_stream.specs.Streams.{Stream, behind_of, by_front, front_of}
+use Rattle.packet_stream.specs.declared.limits.TheConstants.{MAX_PAYLOAD}
 use Rattle.login_client.specs.Heard.{heard_of}
 use Rattle.login_client.specs.Hearing.{IsHeard}
 use Rattle.login_client.specs.Talk as client
@@ -21,14 +24,14 @@ use Rattle.login_client.specs.declared.hearing.Heard.{Heard}
 use Rattle.login_client.proofs.HeardOf.{heard_of_is}
 use Rattle.login_client.proofs.Meaning.{one-meaning}
 use Rattle.client_wire.specs.Getting.{Got, getting}
-use Rattle.client_wire.specs.Packing.{packet_text, packets_text}
+use Rattle.packet_stream.specs.Packing.{packet_text, packets_text}
 use Rattle.client_wire.proofs.Fronted.{at_front}
 use Rattle.both_ends.specs.Meeting.{AreNonces, first_reply, payloads_of}
 use Rattle.session_world.specs.BothEnds.{HasWords}
 use Rattle.session_world.proofs.Wanted.{first_read, is_whole}
 
 abbrev pub IsShort : List ℕ → Type 0
-IsShort payload = length payload ≤ most_payload
+IsShort payload = length payload ≤ MAX_PAYLOAD
 
 -- ## A client beside a session
 
@@ -139,7 +142,7 @@ end_unused next _ stream owns ends = absurd ends
 module _ (next : ℕ) (k : List ℕ → Talk) (said : List ℕ) (k' : Heard → client.Talk) (place : ℕ) (stream : Stream) (owns : List Own) (rest commands : List ℕ) (reply : Reply)
     (found : first_reply owns ≡ Some reply) where
   abbrev wired_by : Front → Wired
-  wired_by f = wiring.by_front (λ last payload behind. wired (id_after last) (k payload) (behind_of stream behind) owns)
+  wired_by f = by_front (λ last payload behind. wired (id_after last) (k payload) (behind_of stream behind) owns)
       (wiring.stops next (Hears false k) stream owns) (λ fault. said_from (id_after (wanted false next)) (faulted fault) stream owns) f
 
   abbrev Again : Type 0

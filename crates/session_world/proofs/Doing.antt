@@ -7,7 +7,8 @@ use Rattle.script_text.specs.declared.event.Event.{Event}
 use Rattle.script_text.specs.declared.event.Event.TheVariants as event
 use Rattle.session_world.specs.Events.{AreDone, EventsAreDone, HistoriesAreLegal, SessionsAreTranscripts, all_doings, all_printed, lines_among, lines_for}
 use Rattle.session_world.specs.Replays.{Came, Of, Printed, Replay, Tells, after_events, all_down, all_up, alters, begins, brings, cut_off, doing, downs, followed_by, happens, idles, is_cut_off, is_in, most_turns, new_replay, nothing, of_session, running, runs, sends, task, tells_if, turns, ups, writes}
-use Rattle.client_wire.specs.UnderWay.{Client, claim_of, has_bytes, result_by, with_client}
+use Rattle.client_wire.specs.UnderWay.{Client, claim_of, result_by, with_client}
+use Rattle.packet_stream.specs.Queue.{has_bytes}
 use Rattle.session_world.specs.Transcripts.{IsHistory, IsTranscript, all_lines, lines_in, lines_of, peer_at, session_bytes, session_lines}
 use Rattle.session_world.specs.Worlds.{Doing, GoesOn, IsIdle, Move, Sets, ToIdle, ToOpen, ToSend, World, after_all, does, is_over_at, is_there_at, move, moved}
 use Rattle.session_world.specs.declared.running.Task.{Task}

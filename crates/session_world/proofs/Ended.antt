@@ -7,12 +7,13 @@ use Rattle.account_history.specs.declared.entries.Opening.{Opening}
 use Rattle.account_history.specs.declared.entries.Reply.{Reply}
 use Rattle.account_history.specs.declared.entries.Reply.TheVariants.{Opened, Sandbox, Blocked, Denied, Locked, MustChange}
 use Rattle.account_rules.specs.declared.accounts.Settings.{Settings}
-use Rattle.session_talk.specs.Laws.{with_more}
+use Rattle.packet_stream.specs.Streams.{Stream, with_more}
 use Rattle.session_talk.specs.Logins.{session}
-use Rattle.session_talk.specs.Owed.{Owed, Sent, owed}
+use Rattle.session_talk.specs.Owed.{Owed, owed}
+use Rattle.packet_stream.specs.Sent.{Sent}
 use Rattle.session_talk.specs.Transcript as told
 use Rattle.session_talk.specs.Transcript.{Transcript, fault_at, read_of, told_fault, wanted_at}
-use Rattle.session_talk.specs.Wired.{Stream, Wired, wired}
+use Rattle.session_talk.specs.Wired.{Wired, wired}
 use Rattle.packet_frame.specs.Packets.{id_after}
 use Rattle.session_talk.specs.declared.ends.SessionEnd.{SessionEnd}
 use Rattle.session_talk.proofs.Tying.{wired_is_owed}
@@ -22,7 +23,7 @@ use Rattle.login_client.specs.declared.claims.Claim.{Claim}
 use Rattle.login_client.specs.declared.ends.LoginEnd.{LoginEnd}
 use Rattle.login_client.specs.declared.ends.LoginEnd.TheVariants as end
 use Rattle.client_wire.specs.Getting.{Got, after_written, getting, rests}
-use Rattle.client_wire.specs.Packing.{packets_text}
+use Rattle.packet_stream.specs.Packing.{packets_text}
 use Rattle.client_wire.proofs.GoingOn.{getting_goes_on}
 use Rattle.script_text.specs.declared.event.Event.{Event}
 use Rattle.both_ends.specs.Meeting.{AreNonces, end_told, first_entered, first_reply, payloads_of}

@@ -1,18 +1,18 @@
 -- The entries that a session's own side makes go on with its bytes, however they are cut.
-use Rattle.std.proofs.Common.{◌≡◌, ap, sym, subst, ℕ, ◌+◌, ◌-◌, Bool, List, [], ◌∷◌, ◌++◌, length, length-append, arith}
+use Rattle.std.proofs.Common.{◌≡◌, sym, subst, ℕ, Bool, List, [], ◌∷◌, ◌++◌}
 use Rattle.packet_frame.specs.Front.{Front, Whole, Part, Fault, StaysWith}
 use Rattle.packet_frame.specs.Packets.{id_after}
 use Rattle.packet_frame.specs.declared.packets.FrameFault.{FrameFault}
 use Rattle.packet_frame.specs.declared.packets.FrameFault.TheVariants.{TooLarge, OutOfOrder, Memory as NoMemory}
-use Rattle.packet_frame.specs.declared.packets.Want.TheVariants.{Exactly}
-use Rattle.packet_frame.proofs.Longer.{front-stays}
+use Rattle.packet_stream.proofs.Longer.{behind_more, stays}
 use Rattle.account_history.specs.declared.entries.Entry.{Entry}
-use Rattle.session_talk.specs.Laws.{with_more}
+use Rattle.packet_stream.specs.Streams.{Stream, behind_of, by_front, front_of, with_more}
 use Rattle.session_talk.specs.Owed.{Own, Drew, Saw, Late, Did}
 use Rattle.session_talk.specs.Talk.{Talk, Says, Hears, Draws, Looks, Checks, Settles, SettlesLocked}
 use Rattle.session_talk.specs.Transcript.{Enters, Reading, after_packet, by_packet, read_of}
-use Rattle.session_talk.specs.Turns.{faulted, id_behind, wanted}
-use Rattle.session_talk.specs.Wired.{Stream, Wired, behind_of, by_front, front_of, most_payload, said_from, stops, wired}
+use Rattle.session_talk.specs.Turns.{faulted, wanted}
+use Rattle.packet_stream.specs.Sent.{id_behind}
+use Rattle.session_talk.specs.Wired.{Wired, said_from, stops, wired}
 
 -- what a session's own side was answered makes these entries, over bytes
 abbrev pub EntersOver : (next : ℕ) → Talk → Stream → List Own → List Entry → Type 0
@@ -21,18 +21,6 @@ EntersOver next t stream owns entries = Enters t (read_of next t stream owns).pa
 -- the same, from where a session stands
 abbrev pub EntersFrom : Wired → (more : List ℕ) → List Own → List Entry → Type 0
 EntersFrom w more owns entries = EntersOver w.next w.at (with_more w.unread more) owns entries
-
-stays : (stream : Stream) (more : List ℕ) (want : ℕ) → StaysWith more (front_of want stream) (front_of want (with_more stream more))
-stays stream more want = front-stays (length stream.bytes) most_payload (Exactly want) stream.place stream.bytes more (omega arith)
-
--- the stream behind a packet, with more bytes
-behind_more : (stream : Stream) (behind more : List ℕ) → behind_of (with_more stream more) (behind ++ more) ≡ with_more (behind_of stream behind) more
-behind_more stream behind more = ap (λ (place : ℕ). record { place = place; bytes = behind ++ more })
-    (same (length-append stream.bytes more) (length-append behind more))
-  where
-    same : length (stream.bytes ++ more) ≡ length stream.bytes + length more → length (behind ++ more) ≡ length behind + length more →
-        stream.place + (length (stream.bytes ++ more) - length (behind ++ more)) ≡ stream.place + (length stream.bytes - length behind)
-    same e f = omega (arith, e, f)
 
 -- where nothing is used and entered, what comes later is all
 all_later : (P : List Own → List Entry → Type 0) (owns others : List Own) (entries later : List Entry) →

@@ -9,7 +9,8 @@ use Rattle.script_text.specs.declared.event.Event.{Event}
 use Rattle.script_text.specs.declared.event.Event.TheVariants as event
 use Rattle.session_world.specs.Events.{RunsComeToRest}
 use Rattle.session_world.specs.Replays.{Came, Replay, after_events, all_down, all_up, begins, brings, bytes_of, cut_off, doing, downs, gets, happens, idles, is_cut_off, is_in, most_turns, new_replay, running, runs, sends, session_of, task, turns, ups, with_sent, writes}
-use Rattle.client_wire.specs.UnderWay.{Client, claim_of, client_after, getting_by, has_bytes, new_client, sent_to, with_client, with_got}
+use Rattle.client_wire.specs.UnderWay.{Client, claim_of, client_after, getting_by, new_client, sent_to, with_client, with_got}
+use Rattle.packet_stream.specs.Queue.{has_bytes}
 use Rattle.session_world.specs.Worlds.{Doing, Place, ToCall, ToLeave, ToOpen, ToSend, ToSet, does, is_over_at, is_there_at, waits_at}
 use Rattle.session_world.specs.declared.calls.Calls.TheVariants.{All, One}
 use Rattle.session_world.specs.declared.calls.Peer.TheVariants.{Closed, Failed}

@@ -5,12 +5,13 @@ use Rattle.account_history.specs.declared.entries.Entry.{Entry}
 use Rattle.account_history.specs.declared.entries.Opening.{Opening}
 use Rattle.account_rules.specs.declared.accounts.Settings.{Settings}
 use Rattle.session_talk.proofs.OverBytes.{wired_goes_on}
-use Rattle.session_talk.specs.Laws.{with_more}
+use Rattle.packet_stream.specs.Streams.{Stream, with_more}
 use Rattle.session_talk.specs.Logins.{session}
-use Rattle.session_talk.specs.Owed.{Own, Drew, Saw, Late, Did, Sent}
+use Rattle.session_talk.specs.Owed.{Own, Drew, Saw, Late, Did}
+use Rattle.packet_stream.specs.Sent.{Sent}
 use Rattle.session_talk.specs.Talk.{Talk, Over}
 use Rattle.session_talk.specs.Transcript.{Enters, ended, read_of}
-use Rattle.session_talk.specs.Wired.{Stream, Wired, after_all_sent, wired}
+use Rattle.session_talk.specs.Wired.{Wired, after_all_sent, wired}
 use Rattle.session_talk.specs.declared.ends.SessionEnd.{SessionEnd}
 use Rattle.both_ends.specs.Meeting.{AreNonces}
 use Rattle.session_world.specs.declared.calls.Calls.TheVariants.{Nothing}

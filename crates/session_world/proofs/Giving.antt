@@ -5,8 +5,9 @@ use Rattle.factor_chain.specs.declared.credentials.Look.{Look}
 use Rattle.factor_chain.specs.declared.evidence_list.Evidence.{Evidence}
 use Rattle.session_talk.proofs.Asking.{what_fits_is_asked}
 use Rattle.session_talk.specs.Talk.{Talk}
-use Rattle.session_talk.specs.Turns.{IsAsked, IsFitting, asked, first_id, heard, id_behind_all, rest, said}
-use Rattle.session_talk.specs.Wired.{Stream}
+use Rattle.session_talk.specs.Turns.{IsAsked, IsFitting, asked, first_id, heard, rest, said}
+use Rattle.packet_stream.specs.Sent.{Sent, id_behind_all}
+use Rattle.packet_stream.specs.Streams.{Stream}
 use Rattle.session_talk.specs.declared.actions.Ask.{Ask}
 use Rattle.session_talk.specs.declared.actions.Ask.TheVariants as ask
 use Rattle.session_talk.specs.declared.inputs.Input.{Input}
@@ -19,8 +20,7 @@ use Rattle.world_table.specs.Printing.{Line, Sends, Adds, Stale, Ends, Idle}
 use Rattle.session_world.specs.Leading.{IsGivenBack, LeadsTo, after_lines, sent_because, with_lines}
 use Rattle.session_world.specs.Lines.{sends_in}
 use Rattle.session_world.specs.declared.output.Output.{Output}
-use Rattle.client_wire.specs.Packing.{packet_text, packets_text}
-use Rattle.session_talk.specs.Owed.{Sent}
+use Rattle.packet_stream.specs.Packing.{packet_text, packets_text}
 use Rattle.world_table.specs.Printing.{line_text, lines_text, send_lines}
 use Rattle.session_world.proofs.Turning.{going_said}
 

@@ -6,7 +6,7 @@ use Rattle.packet_frame.specs.declared.packets.FrameFault.{FrameFault}
 use Rattle.packet_frame.specs.declared.packets.FrameFault.TheVariants.{TooLarge, OutOfOrder, Memory as NoMemory}
 use Rattle.session_talk.specs.Talk.{Talk, Says, Hears, Draws, Looks, Checks, Settles, SettlesLocked, Over}
 use Rattle.session_talk.specs.Turns.{faulted, wanted}
-use Rattle.session_talk.specs.Wired.{Stream, behind_of, front_of}
+use Rattle.packet_stream.specs.Streams.{Stream, behind_of, front_of}
 use Rattle.session_world.specs.declared.calls.Calls.{Calls}
 use Rattle.session_world.specs.declared.calls.Calls.TheVariants.{Nothing, One, All}
 use Rattle.session_world.specs.declared.calls.Peer.{Peer}

@@ -4,7 +4,7 @@ use Rattle.session_engine.specs.Standing.{next_of, talk_of_session}
 use Rattle.session_talk.specs.Talk.{Talk, Says, Hears, Draws, Looks, Checks, Settles, SettlesLocked, Over}
 use Rattle.session_talk.specs.declared.actions.Ask.{Ask}
 use Rattle.session_talk.specs.Turns.{IsBegun, asked, question, wanted_by}
-use Rattle.session_talk.specs.Wired.{Stream}
+use Rattle.packet_stream.specs.Streams.{Stream}
 use Rattle.session_world.specs.declared.calls.Calls.{Calls}
 use Rattle.session_world.specs.declared.calls.Calls.TheVariants.{Nothing}
 use Rattle.session_world.specs.declared.calls.Peer.{Peer}

@@ -3,7 +3,7 @@ use Rattle.std.proofs.Common.{◌≡◌, refl, sym, ◌∙◌, subst, ℕ, Bool,
 use Rattle.std.proofs.lemmas.List.Elements.{Contains-append_left}
 use Rattle.account_history.specs.declared.entries.Opening.{Opening}
 use Rattle.account_rules.specs.declared.accounts.Settings.{Settings}
-use Rattle.session_talk.specs.Owed.{Sent}
+use Rattle.packet_stream.specs.Sent.{Sent}
 use Rattle.session_talk.specs.Texts.{error_payload}
 use Rattle.login_client.specs.Conversation.{ClientTalk, conversation}
 use Rattle.login_client.specs.Talk.{Talk, Over, result_of}

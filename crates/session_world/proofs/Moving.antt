@@ -1,10 +1,9 @@
 -- What doings come to, each by its kind.
 use Rattle.std.proofs.Common.{◌≡◌, refl, ap, subst, ℕ, Bool, true, false, if◌then◌else◌, List, [], append-nil, Option, Some, None}
-use Rattle.session_talk.specs.Laws.{with_more}
+use Rattle.packet_stream.specs.Streams.{Stream, with_more}
 use Rattle.session_talk.specs.Logins.{session}
 use Rattle.session_talk.specs.Talk.{Talk, Looks, Settles, SettlesLocked, Over}
 use Rattle.session_talk.specs.Transcript.{ended}
-use Rattle.session_talk.specs.Wired.{Stream}
 use Rattle.session_world.specs.declared.calls.Calls.{Calls}
 use Rattle.session_world.specs.declared.calls.Calls.TheVariants.{Nothing}
 use Rattle.session_world.specs.declared.calls.Peer.{Peer}

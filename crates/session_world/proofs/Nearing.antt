@@ -2,8 +2,8 @@
 use Rattle.std.proofs.Common.{◌≡◌, refl, ℕ, zero, suc, ◌≤◌, ◌⊎◌, inl, inr, List, [], arith}
 use Rattle.packet_frame.specs.Front.{Front, Whole, Part, Fault}
 use Rattle.packet_frame.specs.Packets.{id_after}
-use Rattle.session_talk.specs.Turns.{id_behind}
-use Rattle.session_talk.specs.Wired.{Stream, behind_of, front_of}
+use Rattle.packet_stream.specs.Sent.{id_behind}
+use Rattle.packet_stream.specs.Streams.{Stream, behind_of, front_of}
 use Rattle.login_client.specs.Exchange.{EndsWithin}
 use Rattle.login_client.specs.Heard.{heard_of}
 use Rattle.login_client.specs.Talk.{Talk, Hears, Says, Over}

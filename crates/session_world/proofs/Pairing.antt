@@ -1,12 +1,12 @@
 -- A session and its client over all that is done: the client stays that session's peer.
 use Rattle.std.proofs.Common.{◌≡◌, ◌≢◌, refl, ap, sym, ◌∙◌, subst, ℕ, ◌==◌, ◌⊎◌, inl, inr, if◌then◌else◌, Bool, true, false, List, [], ◌∷◌, ◌++◌, append-nil, Option, Some, None, option_map}
 use Rattle.std.proofs.lemmas.Bool.Decides.{eqb_tells}
-use Rattle.session_talk.specs.Laws.{with_more}
+use Rattle.packet_stream.specs.Streams.{with_more}
 use Rattle.session_talk.specs.Logins.{session}
-use Rattle.session_talk.specs.Owed.{Sent}
+use Rattle.packet_stream.specs.Sent.{Sent}
 use Rattle.session_talk.specs.Talk.{Talk, Over}
 use Rattle.session_talk.specs.Transcript.{ended}
-use Rattle.client_wire.specs.Packing.{packets_text}
+use Rattle.packet_stream.specs.Packing.{packets_text}
 use Rattle.world_table.specs.Printing.{Idle}
 use Rattle.session_world.specs.declared.calls.Calls.{Calls}
 use Rattle.session_world.specs.declared.calls.Calls.TheVariants.{Nothing}

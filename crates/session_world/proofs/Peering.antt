@@ -3,8 +3,9 @@ use Rattle.std.proofs.Common.{◌≡◌, refl, ap, sym, ◌∙◌, subst, ℕ, B
 use Rattle.packet_frame.specs.Front.{Front}
 use Rattle.packet_frame.specs.declared.packets.Want.TheVariants.{Exactly}
 use Rattle.packet_frame.proofs.Fronts.{front-nothing}
-use Rattle.session_talk.specs.Owed.{Sent}
-use Rattle.session_talk.specs.Wired.{Stream, most_payload}
+use Rattle.packet_stream.specs.Sent.{Sent}
+use Rattle.packet_stream.specs.Streams.{Stream}
+use Rattle.packet_stream.specs.declared.limits.TheConstants.{MAX_PAYLOAD}
 use Rattle.login_client.specs.Conversation.{conversation, greeted}
 use Rattle.login_client.specs.Talk.{Talk, result_of}
 use Rattle.login_client.specs.declared.claims.Claim.{Claim}
@@ -12,10 +13,10 @@ use Rattle.login_client.specs.declared.ends.LoginEnd.{LoginEnd}
 use Rattle.login_client.specs.declared.ends.LoginEnd.TheVariants as end
 use Rattle.client_wire.specs.Ends.{Standing, got_by, stands_at, with_bytes}
 use Rattle.client_wire.specs.Getting.{Got, after_written, getting, rests}
-use Rattle.client_wire.specs.Packing.{packets_text}
+use Rattle.packet_stream.specs.Packing.{packets_text}
 use Rattle.client_wire.proofs.Fronted.{at_front}
 use Rattle.client_wire.proofs.GoingOn.{getting_goes_on}
-use Rattle.client_wire.proofs.Packed.{packets_text-append}
+use Rattle.packet_stream.proofs.Packed.{packets_text-append}
 use Rattle.session_world.specs.Replays.{is_in}
 use Rattle.client_wire.specs.UnderWay.{Client, client_after, getting_by, new_client, sent_to, with_got}
 
@@ -223,7 +224,7 @@ module _ (over : Bool) (client : Client) (sent : List Sent) (bytes : List ℕ) (
 
 got_nothing : (claim : Claim) → got_of claim [] ≡ rests 0 (conversation claim) (stream_of [])
 unfolding getting
-got_nothing claim = ap (λ (f : Front). at_front 0 (greeted claim) (stream_of []) f) (front-nothing most_payload (Exactly 0) 0)
+got_nothing claim = ap (λ (f : Front). at_front 0 (greeted claim) (stream_of []) f) (front-nothing MAX_PAYLOAD (Exactly 0) 0)
 
 pub client_begins : (over : Bool) (claim : Claim) (sent : List Sent) → claim.local ≡ true → IsPeer over (new_client claim (packets_text sent)) sent [] []
 client_begins over claim sent local = record {

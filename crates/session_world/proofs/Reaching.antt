@@ -4,9 +4,8 @@ use Rattle.std.proofs.Common.{◌≡◌, refl, ap, sym, ◌∙◌, ℕ, List, []
 use Rattle.packet_frame.specs.Front.{Front, Whole, Part, Fault}
 use Rattle.packet_frame.specs.Packets.{id_after}
 use Rattle.packet_frame.specs.declared.packets.FrameFault.{FrameFault}
-use Rattle.session_talk.specs.Owed.{Sent}
-use Rattle.session_talk.specs.Turns.{id_behind}
-use Rattle.session_talk.specs.Wired.{Stream, behind_of, front_of}
+use Rattle.packet_stream.specs.Sent.{Sent, id_behind}
+use Rattle.packet_stream.specs.Streams.{Stream, behind_of, front_of}
 use Rattle.login_client.specs.Heard.{heard_of}
 use Rattle.login_client.specs.Talk.{Talk, Hears, Says, Over, Leads, result_of}
 use Rattle.login_client.specs.declared.ends.LoginEnd.{LoginEnd}
@@ -14,7 +13,7 @@ use Rattle.login_client.specs.declared.ends.LoginEnd.TheVariants.{Framing}
 use Rattle.login_client.specs.declared.hearing.Heard.{Heard}
 use Rattle.login_client.proofs.HeardOf.{heard_of_is}
 use Rattle.client_wire.specs.Getting.{getting}
-use Rattle.client_wire.specs.Packing.{packet_text, packets_text}
+use Rattle.packet_stream.specs.Packing.{packet_text, packets_text}
 use Rattle.client_wire.proofs.Fronted.{at_front}
 use Rattle.both_ends.specs.Meeting.{IsBeginning, payloads_of}
 use Rattle.session_world.proofs.Wanted.{first_read, none_read}

@@ -5,7 +5,8 @@ use Rattle.login_client.specs.declared.ends.LoginEnd.{LoginEnd}
 use Rattle.login_client.specs.declared.ends.LoginEnd.TheVariants as end
 use Rattle.client_wire.specs.Getting.{Got}
 use Rattle.session_world.specs.Replays.{Came, Replay, all_down, all_up, bytes_of, cut_off, is_cut_off, most_turns, running, runs, task, task_of, turns}
-use Rattle.client_wire.specs.UnderWay.{Client, client_after, getting_by, has_bytes, sent_to, with_client, with_got}
+use Rattle.client_wire.specs.UnderWay.{Client, client_after, getting_by, sent_to, with_client, with_got}
+use Rattle.packet_stream.specs.Queue.{has_bytes}
 use Rattle.session_world.specs.Worlds.{Doing, Place, ToCall, ToSend, does, is_over_at, is_there_at, waits_at}
 use Rattle.session_world.specs.declared.calls.Calls.TheVariants.{All}
 use Rattle.session_world.specs.declared.running.Task.{Task}

@@ -2,12 +2,13 @@
 use Rattle.std.proofs.Common.{◌≡◌, refl, ap, sym, ◌∙◌, subst, ℕ, ◌==◌, Bool, true, false, cond, List, [], ◌∷◌, ◌++◌, drop, take, Option, Some, None, option_map, is_some, Result, Ok, Err, OnOk}
 use Rattle.std.specs.BTreeMap.{BTreeMap, get}
 use Rattle.std.specs.Ordering.{nat_cmp}
-use Rattle.client_wire.specs.Packing.{packet_text}
+use Rattle.packet_stream.specs.Packing.{packet_text}
 use Rattle.login_client.specs.declared.claims.Claim.{Claim}
 use Rattle.session_world.proofs.Taking.{same_number}
 use Rattle.client_wire.specs.Clients.{AreClients, client_of}
 use Rattle.session_world.specs.Replays.{Came, Of, Printed, Replay, alters, begins, begun_with, brings, bytes_of, cuts_off, doing, downs, gets, idles, is_cut_off, is_in, of_session, printed_text, sends, session_of, ups, with_sent, writes}
-use Rattle.client_wire.specs.UnderWay.{Client, has_bytes, new_client, sent_to, with_client}
+use Rattle.client_wire.specs.UnderWay.{Client, new_client, sent_to, with_client}
+use Rattle.packet_stream.specs.Queue.{has_bytes}
 use Rattle.session_world.specs.Sessions.{Follows, put_by, world_of}
 use Rattle.session_world.specs.Staged.{Leaves, Stands}
 use Rattle.session_world.specs.Worlds.{AreAt, Doing, Happened, ToOpen, ToSend, World, does, is_over_at, is_there_at}

@@ -1,7 +1,8 @@
 -- What a session and its client go on with, each by its kind.
 use Rattle.std.proofs.Common.{◌≡◌, refl, Bool, true, false, if◌then◌else◌, Option, Some, None}
 use Rattle.session_world.specs.Replays.{is_cut_off, task_of, task_with}
-use Rattle.client_wire.specs.UnderWay.{Client, has_bytes}
+use Rattle.client_wire.specs.UnderWay.{Client}
+use Rattle.packet_stream.specs.Queue.{has_bytes}
 use Rattle.session_world.specs.Worlds.{Place, is_over_at, is_there_at, waits_at}
 use Rattle.session_world.specs.declared.running.Task.{Task}
 use Rattle.session_world.specs.declared.running.Task.TheVariants.{Answers, GoesDown, GoesUp, CutsOff, Rests}

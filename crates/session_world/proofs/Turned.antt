@@ -11,7 +11,7 @@ use Rattle.account_history.specs.declared.entries.Reply.{Reply}
 use Rattle.account_history.specs.declared.entries.Who.{Who}
 use Rattle.session_talk.specs.Talk.{Talk, Says, Hears, Draws, Looks, Settles, SettlesLocked, Over}
 use Rattle.session_talk.specs.Turns.{IsBegun, asked, first_id, heard, question, wanted_by}
-use Rattle.session_talk.specs.Wired.{Stream, front_of}
+use Rattle.packet_stream.specs.Streams.{Stream, front_of}
 use Rattle.session_talk.specs.declared.actions.Ask.{Ask}
 use Rattle.session_talk.specs.declared.actions.Ask.TheVariants as ask
 use Rattle.session_talk.specs.declared.ends.SessionEnd.{SessionEnd}
@@ -21,12 +21,12 @@ use Rattle.session_world.specs.declared.calls.Calls.{Calls}
 use Rattle.session_world.specs.declared.calls.Calls.TheVariants.{Nothing, One, All}
 use Rattle.session_world.specs.declared.calls.Peer.{Peer}
 use Rattle.session_world.specs.declared.calls.Peer.TheVariants.{Open, Closed, Failed}
-use Rattle.client_wire.specs.declared.inbox.Found.TheVariants as found
+use Rattle.packet_stream.specs.declared.inbox.Found.TheVariants as found
 use Rattle.world_table.specs.Drawing.{drawn_nonce}
 use Rattle.session_world.specs.Going.{Gone, after_line, going, spent, stops}
 use Rattle.world_table.specs.Table.{Common, attempted, is_stale, next_number, replied, seen, with_draw, with_entry}
 use Rattle.world_table.specs.Printing.{Adds, Ends, Line, Stale}
-use Rattle.client_wire.specs.Inbox.{Takes}
+use Rattle.packet_stream.specs.Inbox.{Takes}
 use Rattle.session_world.specs.Lines.{sends_in}
 use Rattle.session_world.specs.declared.output.Output.{Output}
 use Rattle.session_world.specs.Leading.{Acted, IsCall, IsLookAsked, Leads, LeadsTo, Rests}

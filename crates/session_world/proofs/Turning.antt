@@ -11,10 +11,10 @@ use Rattle.factor_chain.specs.declared.evidence_list.Evidence.{Evidence}
 use Rattle.account_history.specs.declared.entries.Entry.TheVariants.{Observed}
 use Rattle.account_history.specs.declared.entries.Reply.{Reply}
 use Rattle.account_history.specs.declared.entries.Who.{Who}
-use Rattle.session_talk.specs.Runs.{sent_from}
+use Rattle.packet_stream.specs.Sent.{id_behind, id_behind_all, sent_from}
 use Rattle.session_talk.specs.Talk.{Talk, Says, Hears, Draws, Looks, Checks, Settles, SettlesLocked, Over}
-use Rattle.session_talk.specs.Turns.{IsBegun, asked, faulted, first_id, heard, id_behind, id_behind_all, question, rest, said, wanted, wanted_by}
-use Rattle.session_talk.specs.Wired.{Stream, behind_of, front_of}
+use Rattle.session_talk.specs.Turns.{IsBegun, asked, faulted, first_id, heard, question, rest, said, wanted, wanted_by}
+use Rattle.packet_stream.specs.Streams.{Stream, behind_of, front_of}
 use Rattle.session_talk.specs.declared.actions.Ask.TheVariants as ask
 use Rattle.session_talk.specs.declared.ends.SessionEnd.{SessionEnd}
 use Rattle.session_talk.specs.declared.inputs.Input.{Input}

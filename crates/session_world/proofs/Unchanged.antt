@@ -9,7 +9,8 @@ use Rattle.script_text.specs.declared.event.Event.TheVariants as event
 use Rattle.session_world.specs.Events.{AreSame, IdleChangesNothing}
 use Rattle.session_world.specs.Going.{Gone}
 use Rattle.session_world.specs.Replays.{Came, Of, Printed, Replay, Tells, all_down, all_up, alters, begins, begun_with, brings, came_of, cut_off, doing, downs, happens, idles, is_cut_off, is_in, most_turns, of_session, printed_text, result_line, running, runs, sends, task, tells_if, turns, ups, writes}
-use Rattle.client_wire.specs.UnderWay.{Client, claim_of, has_bytes, result_by, sent_to}
+use Rattle.client_wire.specs.UnderWay.{Client, claim_of, result_by, sent_to}
+use Rattle.packet_stream.specs.Queue.{has_bytes}
 use Rattle.session_world.specs.Worlds.{Doing, GoesOn, Happened, IsIdle, Move, Place, Sets, ToCall, ToLeave, ToOpen, ToSend, ToSet, World, calling, is_over_at, is_there_at, move, moved, opening, sending, waits_at}
 use Rattle.session_world.specs.declared.calls.Calls.TheVariants.{All, One}
 use Rattle.session_world.specs.declared.calls.Peer.{Peer}

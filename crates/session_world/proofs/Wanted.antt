@@ -13,10 +13,10 @@ use Rattle.packet_frame.proofs.Fronts.{front-header, front-short, headed_front-o
 use Rattle.packet_frame.proofs.Longer.{front-stays}
 use Rattle.packet_frame.proofs.Readings.{front-packet}
 use Rattle.packet_frame.proofs.Streams.{packet-fits}
-use Rattle.session_talk.specs.Turns.{id_behind}
-use Rattle.session_talk.specs.Wired.{most_payload}
-use Rattle.client_wire.specs.Packing.{packet_text, pieces_of}
-use Rattle.client_wire.proofs.Packed.{text_is_packet}
+use Rattle.packet_stream.specs.Sent.{id_behind}
+use Rattle.packet_stream.specs.declared.limits.TheConstants.{MAX_PAYLOAD}
+use Rattle.packet_stream.specs.Packing.{packet_text, pieces_of}
+use Rattle.packet_stream.proofs.Packed.{text_is_packet}
 
 -- ## The header of a packet
 
@@ -35,7 +35,7 @@ unfolding first_piece
 first_small zero payload e = omega (arith, e)
 first_small (suc count) payload e = let size = length-take-le full_size payload (omega (arith, e)) in omega (arith, size)
 
-first_large : (count : ℕ) (payload : List ℕ) → length payload / full_size ≡ count → most_payload < length payload → most_payload < length (first_piece count payload)
+first_large : (count : ℕ) (payload : List ℕ) → length payload / full_size ≡ count → MAX_PAYLOAD < length payload → MAX_PAYLOAD < length (first_piece count payload)
 unfolding first_piece
 first_large zero payload e h = h
 first_large (suc count) payload e h = let size = length-take-le full_size payload (omega (arith, e)) in omega (arith, size)
@@ -45,14 +45,14 @@ first_large (suc count) payload e h = let size = length-take-le full_size payloa
 -- a packet, with the id that is wanted and a payload that fits
 abbrev pub IsRead : (want place first : ℕ) → (payload behind : List ℕ) → Front → Type 0
 IsRead want place first payload behind f =
-    (first ≡ want) × (length payload ≤ most_payload) × (last : ℕ) × (id_after last ≡ id_behind first payload) × (f ≡ Whole first last payload behind)
+    (first ≡ want) × (length payload ≤ MAX_PAYLOAD) × (last : ℕ) × (id_after last ≡ id_behind first payload) × (f ≡ Whole first last payload behind)
 
 abbrev pub IsFaulty : Front → Type 0
 IsFaulty f = (fault : FrameFault) × (f ≡ Fault fault)
 
 module _ (want place first : ℕ) (payload behind : List ℕ) where
   abbrev shown : Front
-  shown = front most_payload (Exactly want) place (packet_text first payload ++ behind)
+  shown = front MAX_PAYLOAD (Exactly want) place (packet_text first payload ++ behind)
 
   abbrev count : ℕ
   count = length payload / full_size
@@ -60,46 +60,46 @@ module _ (want place first : ℕ) (payload behind : List ℕ) where
   abbrev size : ℕ
   size = length (first_piece count payload)
 
-  by_header : (more : Front → Type 0) → ((rest : List ℕ) → more (front most_payload (Exactly want) place (header_text size first ++ rest))) → more shown
+  by_header : (more : Front → Type 0) → ((rest : List ℕ) → more (front MAX_PAYLOAD (Exactly want) place (header_text size first ++ rest))) → more shown
   unfolding packet_text
   by_header more each =
       let (rest, text_is) = headed first count payload in
-      subst (λ (text : List ℕ). more (front most_payload (Exactly want) place (text ++ behind))) (sym text_is) (each (rest ++ behind))
+      subst (λ (text : List ℕ). more (front MAX_PAYLOAD (Exactly want) place (text ++ behind))) (sym text_is) (each (rest ++ behind))
 
   is_other : first ≢ want → IsFaulty shown
   is_other differs = by_header IsFaulty (λ rest. (
     OutOfOrder place want first,
-    front-header most_payload (Exactly want) place size first rest (first_small count payload refl)
-        ∙ headed_front-other most_payload want size first place rest _ differs,
+    front-header MAX_PAYLOAD (Exactly want) place size first rest (first_small count payload refl)
+        ∙ headed_front-other MAX_PAYLOAD want size first place rest _ differs,
   ))
 
-  is_large : first ≡ want → most_payload < length payload → IsFaulty shown
+  is_large : first ≡ want → MAX_PAYLOAD < length payload → IsFaulty shown
   is_large same large = by_header IsFaulty (λ rest. (
     TooLarge place,
-    front-header most_payload (Exactly want) place size first rest (first_small count payload refl)
-        ∙ (headed_front-wanted most_payload (Exactly want) size first place rest _ same
-        ∙ sized_front-large most_payload size first place rest _ (first_large count payload refl large)),
+    front-header MAX_PAYLOAD (Exactly want) place size first rest (first_small count payload refl)
+        ∙ (headed_front-wanted MAX_PAYLOAD (Exactly want) size first place rest _ same
+        ∙ sized_front-large MAX_PAYLOAD size first place rest _ (first_large count payload refl large)),
   ))
 
-  pub is_whole : first ≡ want → length payload ≤ most_payload → IsRead want place first payload behind shown
+  pub is_whole : first ≡ want → length payload ≤ MAX_PAYLOAD → IsRead want place first payload behind shown
   is_whole same fits =
       let (last, is, next_is) = text_is_packet first payload in (
         same,
         fits,
         last,
         next_is,
-        front-packet most_payload (Exactly want) first last payload (packet_text first payload) place behind
-            (packet-fits most_payload (length payload) (Exactly want) (Exactly first) first last payload (packet_text first payload) is same fits),
+        front-packet MAX_PAYLOAD (Exactly want) first last payload (packet_text first payload) place behind
+            (packet-fits MAX_PAYLOAD (length payload) (Exactly want) (Exactly first) first last payload (packet_text first payload) is same fits),
       )
 
-  by_size : first ≡ want → (most_payload < length payload) ⊎ (length payload ≤ most_payload) → IsRead want place first payload behind shown ⊎ IsFaulty shown
+  by_size : first ≡ want → (MAX_PAYLOAD < length payload) ⊎ (length payload ≤ MAX_PAYLOAD) → IsRead want place first payload behind shown ⊎ IsFaulty shown
   by_size same (inl large) = inr (is_large same large)
   by_size same (inr fits) = inl (is_whole same fits)
 
   pub read_or_faulty : IsRead want place first payload behind shown ⊎ IsFaulty shown
   read_or_faulty = by_id (eqb_tells first want) where
     by_id : (((first == want) ≡ true) × (first ≡ want)) ⊎ (((first == want) ≡ false) × (first ≢ want)) → IsRead want place first payload behind shown ⊎ IsFaulty shown
-    by_id (inl same) = by_size same.1 (cases_lt most_payload (length payload))
+    by_id (inl same) = by_size same.1 (cases_lt MAX_PAYLOAD (length payload))
     by_id (inr differs) = inr (is_other differs.1)
 
 -- ## A beginning of what was sent
@@ -110,24 +110,24 @@ same_front f g first last first' last' payload payload' behind behind' e is is' 
 
 -- the packet that is read of a beginning of what was sent is the first one that was sent
 pub first_read : (want place first first' last' : ℕ) (payload payload' behind behind' bytes more : List ℕ) → bytes ++ more ≡ packet_text first payload ++ behind →
-    front most_payload (Exactly want) place bytes ≡ Whole first' last' payload' behind' →
-    (first ≡ want) × (length payload ≤ most_payload) × (payload' ≡ payload) × (id_after last' ≡ id_behind first payload) × (behind' ++ more ≡ behind)
+    front MAX_PAYLOAD (Exactly want) place bytes ≡ Whole first' last' payload' behind' →
+    (first ≡ want) × (length payload ≤ MAX_PAYLOAD) × (payload' ≡ payload) × (id_after last' ≡ id_behind first payload) × (behind' ++ more ≡ behind)
 first_read want place first first' last' payload payload' behind behind' bytes more split found = by (read_or_faulty want place first payload behind) where
-  longer : front most_payload (Exactly want) place (bytes ++ more) ≡ Whole first' last' payload' (behind' ++ more)
-  longer = subst (λ (f : Front). StaysWith more f (front most_payload (Exactly want) place (bytes ++ more))) found
-      (front-stays (length bytes) most_payload (Exactly want) place bytes more (omega arith))
+  longer : front MAX_PAYLOAD (Exactly want) place (bytes ++ more) ≡ Whole first' last' payload' (behind' ++ more)
+  longer = subst (λ (f : Front). StaysWith more f (front MAX_PAYLOAD (Exactly want) place (bytes ++ more))) found
+      (front-stays (length bytes) MAX_PAYLOAD (Exactly want) place bytes more (omega arith))
 
-  whole : front most_payload (Exactly want) place (packet_text first payload ++ behind) ≡ Whole first' last' payload' (behind' ++ more)
-  whole = ap (λ (text : List ℕ). front most_payload (Exactly want) place text) (sym split) ∙ longer
+  whole : front MAX_PAYLOAD (Exactly want) place (packet_text first payload ++ behind) ≡ Whole first' last' payload' (behind' ++ more)
+  whole = ap (λ (text : List ℕ). front MAX_PAYLOAD (Exactly want) place text) (sym split) ∙ longer
 
   by : IsRead want place first payload behind (shown want place first payload behind) ⊎ IsFaulty (shown want place first payload behind) →
-      (first ≡ want) × (length payload ≤ most_payload) × (payload' ≡ payload) × (id_after last' ≡ id_behind first payload) × (behind' ++ more ≡ behind)
+      (first ≡ want) × (length payload ≤ MAX_PAYLOAD) × (payload' ≡ payload) × (id_after last' ≡ id_behind first payload) × (behind' ++ more ≡ behind)
   by (inl (same, fits, last, next_is, is)) =
       let (f, l, p, b) = same_front _ _ first' last' first last payload' payload (behind' ++ more) behind refl whole is in
       (same, fits, p, ap id_after l ∙ next_is, b)
   by (inr (fault, is)) = absurd (let e = whole in cc)
 
 -- nothing is read of nothing
-pub none_read : (want place first last : ℕ) (payload behind bytes more : List ℕ) → bytes ++ more ≡ [] → front most_payload (Exactly want) place bytes ≡ Whole first last payload behind → ⊥
-none_read want place first last payload behind [] more e found = absurd (let f = front-short most_payload (Exactly want) place [] (omega arith) in cc)
+pub none_read : (want place first last : ℕ) (payload behind bytes more : List ℕ) → bytes ++ more ≡ [] → front MAX_PAYLOAD (Exactly want) place bytes ≡ Whole first last payload behind → ⊥
+none_read want place first last payload behind [] more e found = absurd (let f = front-short MAX_PAYLOAD (Exactly want) place [] (omega arith) in cc)
 none_read want place first last payload behind (x ∷ bytes) more e found = absurd (cc)

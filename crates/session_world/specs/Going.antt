@@ -9,8 +9,9 @@ use Rattle.account_history.specs.declared.entries.Entry.TheVariants.{Observed}
 use Rattle.session_talk.specs.declared.ends.SessionEnd.{SessionEnd}
 use Rattle.session_talk.specs.declared.ends.SessionEnd.TheVariants as end
 use Rattle.session_talk.specs.Talk.{Talk, Says, Hears, Draws, Looks, Checks, Settles, SettlesLocked, Over}
-use Rattle.session_talk.specs.Turns.{faulted, id_behind, wanted}
-use Rattle.session_talk.specs.Wired.{Stream, behind_of, front_of}
+use Rattle.session_talk.specs.Turns.{faulted, wanted}
+use Rattle.packet_stream.specs.Sent.{id_behind}
+use Rattle.packet_stream.specs.Streams.{Stream, behind_of, front_of}
 use Rattle.world_table.specs.Drawing.{drawn_nonce}
 use Rattle.world_table.specs.Table.{Common, attempted, is_stale, next_number, replied, seen, with_draw, with_entry}
 use Rattle.world_table.specs.Printing.{Adds, Ends, Line, Sends, Stale}

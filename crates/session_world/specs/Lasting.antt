@@ -2,7 +2,7 @@
 use Rattle.std.specs.Prelude.{ℕ, zero, suc, ◌-◌, ◌<◌, ◌≤◌, length}
 use Rattle.session_talk.specs.Bounds.{Within}
 use Rattle.session_talk.specs.Talk.{Talk, Over}
-use Rattle.session_talk.specs.Wired.{Stream}
+use Rattle.packet_stream.specs.Streams.{Stream}
 use Rattle.session_talk.specs.declared.inputs.Input.{Input}
 use Rattle.session_talk.specs.declared.inputs.Input.TheVariants as input
 

@@ -3,17 +3,17 @@ use Rattle.std.specs.Prelude.{◌≡◌, ℕ, List, ◌++◌}
 use Rattle.account_history.specs.declared.entries.Who.{Who}
 use Rattle.session_talk.specs.declared.actions.Ask.{Ask}
 use Rattle.session_talk.specs.declared.actions.Ask.TheVariants as ask
-use Rattle.session_talk.specs.Runs.{sent_from}
+use Rattle.packet_stream.specs.Sent.{id_behind_all, sent_from}
 use Rattle.session_talk.specs.Talk.{Talk}
-use Rattle.session_talk.specs.Turns.{first_id, heard, id_behind_all, rest, said}
+use Rattle.session_talk.specs.Turns.{first_id, heard, rest, said}
 use Rattle.session_talk.specs.declared.inputs.Input.{Input}
 use Rattle.session_talk.specs.declared.inputs.Input.TheVariants as input
-use Rattle.session_talk.specs.Wired.{Stream}
+use Rattle.packet_stream.specs.Streams.{Stream}
 use Rattle.session_world.specs.declared.calls.Calls.{Calls}
 use Rattle.session_world.specs.declared.calls.Peer.{Peer}
 use Rattle.session_world.specs.declared.output.Output.{Output}
 use Rattle.session_world.specs.Lines.{sends_in}
-use Rattle.client_wire.specs.Packing.{packets_text}
+use Rattle.packet_stream.specs.Packing.{packets_text}
 use Rattle.session_world.specs.Going.{Gone, going, stops}
 use Rattle.world_table.specs.Table.{Common}
 use Rattle.world_table.specs.Printing.{Line}

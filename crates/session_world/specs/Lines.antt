@@ -1,7 +1,7 @@
 -- What is among the lines that are printed of sessions.
 use Rattle.std.specs.Prelude.{ℕ, List, [], ◌∷◌}
 use Rattle.account_history.specs.declared.entries.Entry.{Entry}
-use Rattle.session_talk.specs.Owed.{Sent}
+use Rattle.packet_stream.specs.Sent.{Sent}
 use Rattle.session_talk.specs.declared.ends.SessionEnd.{SessionEnd}
 use Rattle.world_table.specs.Printing.{Line, Sends, Adds, Stale, Ends, Idle}
 

@@ -3,8 +3,9 @@
 use Rattle.std.specs.Prelude.{ℕ, zero, suc, ◌==◌, Bool, true, false, if◌then◌else◌, List, [], ◌∷◌, ◌++◌, take, drop, Option, Some, None, is_some, option_map, codes, decimal}
 use Rattle.account_history.specs.declared.entries.Opening.{Opening}
 use Rattle.account_rules.specs.declared.accounts.Settings.{Settings}
-use Rattle.client_wire.specs.UnderWay.{Client, claim_of, client_after, has_bytes, new_client, result_by, sent_to, with_client}
-use Rattle.client_wire.specs.Packing.{packet_text, packets_text}
+use Rattle.client_wire.specs.UnderWay.{Client, claim_of, client_after, new_client, result_by, sent_to, with_client}
+use Rattle.packet_stream.specs.Queue.{has_bytes}
+use Rattle.packet_stream.specs.Packing.{packet_text, packets_text}
 use Rattle.login_client.specs.declared.claims.Claim.{Claim}
 use Rattle.login_client.specs.declared.ends.LoginEnd.{LoginEnd}
 use Rattle.login_client.specs.declared.ends.LoginEnd.TheVariants as end

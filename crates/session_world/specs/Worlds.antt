@@ -9,7 +9,7 @@ use Rattle.account_machine.specs.Openings.{opening_start}
 use Rattle.account_rules.specs.declared.accounts.Settings.{Settings}
 use Rattle.session_talk.specs.Logins.{session}
 use Rattle.session_talk.specs.Talk.{Talk, Says, Hears, Draws, Looks, Checks, Settles, SettlesLocked, Over}
-use Rattle.session_talk.specs.Wired.{Stream}
+use Rattle.packet_stream.specs.Streams.{Stream}
 use Rattle.session_talk.specs.declared.actions.Ask.{Ask}
 use Rattle.session_talk.specs.declared.actions.Ask.TheVariants as ask
 use Rattle.session_world.specs.Going.{Gone, going}

@@ -1,12 +1,12 @@
 //! What comes of something that is done: lines, and bytes for a peer.
 
-ghost use Rattle.session_talk.specs.Runs.{sent_from};
+ghost use Rattle.packet_stream.specs.Sent.{sent_from};
 ghost use Rattle.session_world.specs.Leading.{with_lines};
 ghost use Rattle.std.specs.Prelude.{◌≡◌, [], ◌∷◌, OnOk};
 ghost use Rattle.world_table.specs.Printing.{Idle, send_lines};
 
-use client_wire::add_packets;
 use lg_base::{Bytes, Memory, Out};
+use packet_stream::add_packets;
 use std::alloc::Global;
 use world_table::printing::{print_idle, print_sends};
 

@@ -8,10 +8,11 @@ ghost use Rattle.std.specs.Prelude.{◌≡◌, Some, drop, take, OnOk};
 use crate::output::Output;
 use crate::stage::Stage;
 use crate::telling::{print_idles, print_if_told};
+use client_wire::HeldClient;
 use client_wire::clients::{get, keep, take};
-use client_wire::{HeldClient, add_packet};
 use lg_base::{Memory, Out};
 use login_client::LoginEnd;
+use packet_stream::add_packet;
 use std::alloc::Global;
 
 /// Whether a session has ended, and its client still waits for a result.

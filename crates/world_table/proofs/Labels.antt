@@ -1,5 +1,5 @@
 -- An account that is looked at has few labels.
-use Rattle.std.proofs.Common.{◌≡◌, refl, IsTrue, length, Option, Some, None, IfSome}
+use Rattle.std.proofs.Common.{refl, IsTrue, length, Option, Some, None, IfSome}
 use Rattle.std.proofs.lemmas.Bool.{le-leb}
 use Rattle.factor_chain.specs.declared.credentials.InForce.{InForce}
 use Rattle.account_machine.specs.Labels.{ShowsFewLabels}

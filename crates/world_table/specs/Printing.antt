@@ -7,7 +7,7 @@ use Rattle.account_history.specs.declared.entries.Reply.{Reply}
 use Rattle.account_history.specs.declared.entries.Reply.TheVariants.{Opened, Sandbox, Blocked, Denied, Locked, MustChange}
 use Rattle.session_talk.specs.declared.ends.SessionEnd.{SessionEnd}
 use Rattle.session_talk.specs.declared.ends.SessionEnd.TheVariants.{Quit, PeerClosed, Refused, Bad, LinkFault, SessionLong, Memory}
-use Rattle.session_talk.specs.Owed.{Sent}
+use Rattle.packet_stream.specs.Sent.{Sent}
 
 -- what is printed of a session
 pub data Line : Type 0 where

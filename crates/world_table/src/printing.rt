@@ -1,7 +1,6 @@
 //! The lines that a replay prints.
 
-ghost use Rattle.session_talk.specs.Runs.{sent_from};
-ghost use Rattle.session_talk.specs.Turns.{id_behind};
+ghost use Rattle.packet_stream.specs.Sent.{sent_from};
 ghost use Rattle.world_table.specs.Printing.{Ends, Idle, Sends, Stale};
 ghost use Rattle.world_table.specs.Printing as text;
 ghost use Rattle.world_table.specs.Printing.{line_text, lines_text, send_lines};
@@ -9,10 +8,8 @@ ghost use Rattle.std.specs.Prelude.{◌≡◌, [], ◌∷◌, ◌++◌, OnOk, de
 
 use account_history::Reply;
 use lg_base::{Bytes, Memory, Out};
+use packet_stream::id_behind;
 use session_talk::SessionEnd;
-
-/// The most bytes of a piece of a payload.
-const FULL: usize = 16_777_215;
 
 /// Bytes in hexadecimal, `-` for none.
 #[tactic(auto, unfolding(crate::specs::Printing::hex_word))]
@@ -153,14 +150,6 @@ fn print_send(out: &mut Out, session: u32, first: u8, payload: &[u8]) -> Result<
     out.byte(b'\n')
 }
 
-/// The sequence id that comes after a payload.
-fn id_after_payload(first: u8, payload: &[u8]) -> u8
-    ensures { result ≡ id_behind first payload.now }
-{
-    let pieces = (payload.len() / FULL % 256) as u8;
-    first.wrapping_add(pieces).wrapping_add(1)
-}
-
 /// The lines of payloads that are sent, the first with a sequence id.
 pub fn print_sends(out: &mut Out, session: u32, first: u8, payloads: &[Bytes]) -> Result<(), Memory>
     ensures { OnOk result (out.new ≡ out.old ++ lines_text session (send_lines (sent_from first payloads.now))) }
@@ -168,7 +157,7 @@ pub fn print_sends(out: &mut Out, session: u32, first: u8, payloads: &[Bytes]) -
     let mut next = first;
     'payloads: for payload in payloads {
         print_send(out, session, next, payload.as_slice())?;
-        next = id_after_payload(next, payload.as_slice());
+        next = id_behind(next, payload.as_slice());
     }
     Ok(())
 }

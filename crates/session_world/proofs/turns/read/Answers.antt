@@ -1,8 +1,8 @@
 use Rattle.std.proofs.Common.{subst, sym, ap, not}
 use Rattle.session_engine.specs.Standing.{next_of, talk_of_session}
 use Rattle.session_world.specs.Leading.{Leads, Rests}
-use Rattle.client_wire.specs.Inbox.{Takes}
-use Rattle.client_wire.specs.declared.inbox.Found.{Found}
+use Rattle.packet_stream.specs.Inbox.{Takes}
+use Rattle.packet_stream.specs.declared.inbox.Found.{Found}
 use Rattle.session_world.specs.declared.calls.Peer.{Peer}
 use Rattle.session_world.proofs.Turned.{closed_leads, failed_leads, fault_leads, packet_leads, waits_rests}
 use Rattle.session_world.proofs.turns.read.Goals as goal

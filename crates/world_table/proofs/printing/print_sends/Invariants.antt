@@ -1,5 +1,5 @@
 use Rattle.std.proofs.Common.{◌≡◌, ◌++◌, drop}
-use Rattle.session_talk.specs.Runs.{sent_from}
+use Rattle.packet_stream.specs.Sent.{sent_from}
 use Rattle.world_table.specs.Printing.{lines_text, send_lines}
 use Rattle.world_table.proofs.printing.print_sends.Given as goal
 

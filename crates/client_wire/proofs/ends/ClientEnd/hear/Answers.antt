@@ -1,10 +1,10 @@
 use Rattle.std.proofs.Common.{◌≡◌, ap, sym, ◌∙◌, subst, List, ℕ, Option, Some, ◌++◌}
-use Rattle.session_talk.specs.Turns.{id_behind}
+use Rattle.packet_stream.specs.Sent.{id_behind}
 use Rattle.login_client.specs.Acting.{Acts}
 use Rattle.login_client.specs.Clients.{talk_of}
 use Rattle.login_client.specs.declared.ends.ClientAct.{ClientAct}
 use Rattle.client_wire.specs.Ends.{LeadsTo, Standing, heard_by, standing_of}
-use Rattle.client_wire.specs.Packing.{packet_text}
+use Rattle.packet_stream.specs.Packing.{packet_text}
 use Rattle.client_wire.proofs.Turning.{ends-on, hears-on, says-on}
 use Rattle.client_wire.proofs.ends.ClientEnd.hear.Goals as goal
 

@@ -1,7 +1,7 @@
 use Rattle.std.proofs.Common.{subst, sym}
 use Rattle.client_wire.specs.Ends.{LeadsTo, Standing, standing_of}
-use Rattle.client_wire.specs.Inbox.{Takes}
-use Rattle.client_wire.specs.declared.inbox.Found.{Found}
+use Rattle.packet_stream.specs.Inbox.{Takes}
+use Rattle.packet_stream.specs.declared.inbox.Found.{Found}
 use Rattle.client_wire.proofs.Turning.{leads-from, leads-same, on_ok, took-fault, took-nothing, took-packet}
 use Rattle.client_wire.proofs.ends.ClientEnd.turn.Goals as goal
 

@@ -1,5 +1,5 @@
 use Rattle.std.proofs.Common.{sym, ◌∙◌, ap, refl, List, [], ℕ, ◌++◌, append-nil}
-use Rattle.client_wire.specs.Packing.{packet_text}
+use Rattle.packet_stream.specs.Packing.{packet_text}
 use Rattle.client_wire.specs.UnderWay.{Client}
 use Rattle.client_wire.specs.Clients.{client_of}
 use Rattle.session_world.proofs.Giving.{on_ok}

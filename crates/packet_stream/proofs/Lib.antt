@@ -1,0 +1,5 @@
+pub mod Fronting
+pub mod Packed
+pub mod Longer
+pub mod Heads
+mod Left
