@@ -1,3 +1,4 @@
+pub mod Decided
 pub mod Moments
 pub mod OneMore
 pub mod Running

@@ -1,4 +1,5 @@
 pub mod Answers
+pub mod Deciding
 pub mod Examples
 pub mod Failures
 pub mod Histories
