@@ -1,6 +1,6 @@
 -- What decides an attempt to log in, as an ordered list of conditions: a session opens exactly where all of them hold,
 -- and else the reply names the first that doesn't.
-use Rattle.std.specs.Prelude.{◌≡◌, ℕ, max, Bool, true, false, not, ◌&&◌, if◌then◌else◌, List, [], ◌∷◌, find, Option, Some, None}
+use Rattle.std.specs.Prelude.{◌≡◌, ℕ, max, Bool, true, not, ◌&&◌, if◌then◌else◌, List, [], ◌∷◌, find, Option, Some, None}
 use Rattle.std.specs.List.{list_all}
 use Rattle.factor_chain.specs.declared.evidence_list.Evidence.{Evidence}
 use Rattle.login_lock.specs.Lock.{days_left, is_blocked, next_locks}
@@ -13,6 +13,7 @@ use Rattle.account_history.specs.Answers.{attempt_reply, uses_password}
 use Rattle.account_history.specs.Failures.{opens, tally}
 use Rattle.account_history.specs.Histories.{History, moment, start_of}
 use Rattle.account_history.specs.Records.{in_force, records}
+use Rattle.account_history.specs.Targets.{of_account}
 use Rattle.account_history.specs.Verifying.{verifies}
 
 pub data Condition : Type 0 where
@@ -41,11 +42,6 @@ pub record Login : Type 0 where
 abbrev pub login_at : History → List ℕ → List Evidence → ℕ → ℕ → Login
 login_at h user evidences flags reading =
     record { before = h; user = user; evidences = evidences; flags = flags; now = max reading (moment h) }
-
--- a condition on the account in force, which must be there
-abbrev pub of_account : (Account → Bool) → Option Account → Bool
-of_account holds None = false
-of_account holds (Some account) = holds account
 
 -- the password has expired, the server refuses expired ones, and the client can't go on with one
 abbrev pub must_change : ℕ → Settings → Account → ℕ → Bool

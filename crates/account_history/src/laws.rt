@@ -2,6 +2,7 @@
 
 ghost use Rattle.account_history.specs.Deciding.{AttemptsAreDecided};
 ghost use Rattle.account_history.specs.Examples.{ExpiryExample, LockExample};
+ghost use Rattle.account_history.specs.Numbers.{NumbersRise, NumbersStayGone};
 ghost use Rattle.account_history.specs.Telling.{StampsTell};
 
 /// A session opens exactly where an account is in force for the user, no lock after failed logins is in force on it, each
@@ -15,6 +16,13 @@ pub fn attempts_are_decided()
 /// it is known still.
 pub fn stamps_tell()
     ensures { StampsTell }
+{}
+
+/// The numbers of accounts rise in every history, and none is given twice: a look at one's own account by its number
+/// never shows another.
+pub fn numbers_are_given_once()
+    ensures rise { NumbersRise }
+    ensures gone { NumbersStayGone }
 {}
 
 /// Worked examples: a lock after three failures, and an expiry.
