@@ -1,4 +1,6 @@
+pub mod Decided
 pub mod Moments
+pub mod Numbered
 pub mod OneMore
 pub mod Running
 pub mod Unchanged

@@ -3,7 +3,7 @@ use Rattle.std.proofs.Common.{◌≡◌, refl, ℕ, zero, suc, max, ◌≤◌, L
 use Rattle.login_lock.specs.Lock.{locked_at}
 use Rattle.account_rules.specs.declared.accounts.Account.{Account}
 use Rattle.account_history.specs.declared.entries.Attempt.{Attempt}
-use Rattle.account_history.specs.declared.entries.Entry.TheVariants.{Observed, Attempted}
+use Rattle.account_history.specs.declared.entries.Entry.TheVariants.{Observed, Attempted, Executed}
 use Rattle.account_history.specs.Failures.{Step, attempt_step, failures, failures_in, no_step, step_of, step_on, steps}
 use Rattle.account_history.specs.Histories.{History, From, ◌▹◌, moment}
 use Rattle.account_history.specs.Records.{in_force, records}
@@ -60,3 +60,8 @@ failures-upto (h ▹ Attempted t) id =
     (upto-step (max t.reading (moment h)) (failures h id) (step_of h (Attempted t) id (steps h id))
     (upto-more (moment h) (max t.reading (moment h)) (failures h id) (omega arith) (failures-upto h id))
     (let e = step_on-moment h (in_force (records h) t.user) id (steps h id) t (max t.reading (moment h)) in omega (arith, e)))
+failures-upto (h ▹ Executed e) id =
+    rw (failures_in-more (steps h id) (step_of h (Executed e) id (steps h id)))
+    (upto-step (max e.reading (moment h)) (failures h id) (step_of h (Executed e) id (steps h id))
+    (upto-more (moment h) (max e.reading (moment h)) (failures h id) (omega arith) (failures-upto h id))
+    (omega arith))

@@ -1,18 +1,21 @@
 -- What one more entry does to what a history determines.
-use Rattle.std.proofs.Common.{◌≡◌, refl, ap, ◌∙◌, ℕ, max, List, [], ◌∷◌, ◌++◌, false, Some, None, ◌==◌, eq-eqb}
+use Rattle.std.proofs.Common.{◌≡◌, refl, ap, ◌∙◌, ℕ, ◌+◌, ◌≤◌, max, List, [], ◌∷◌, ◌++◌, Bool, true, false, ◌&&◌, if◌then◌else◌, Some, None, ◌==◌, eq-eqb, arith}
+use Rattle.std.proofs.lemmas.List.{append-nil}
 use Rattle.account_rules.specs.declared.accounts.Account.{Account}
 use Rattle.account_history.specs.declared.entries.Attempt.{Attempt}
 use Rattle.account_history.specs.declared.entries.Entry.{Entry}
-use Rattle.account_history.specs.declared.entries.Entry.TheVariants.{Observed, Attempted}
+use Rattle.account_history.specs.declared.entries.Entry.TheVariants.{Observed, Attempted, Executed}
+use Rattle.account_history.specs.declared.entries.Execution.{Execution}
 use Rattle.account_history.specs.declared.entries.Who.{Who}
 use Rattle.account_history.specs.declared.entries.Log.{Log}
 use Rattle.factor_chain.specs.declared.credentials.Look.{Look}
 use Rattle.login_lock.specs.Lock.{after}
-use Rattle.account_history.specs.Failures.{failures, failures_in, opens, step_on, steps}
+use Rattle.account_history.specs.Failures.{clears_failures, failures, failures_in, opens, step_on, steps}
+use Rattle.account_history.specs.Given.{given, is_done}
 use Rattle.account_history.specs.Histories.{History, From, ◌▹◌, after_entries, history, moment, noted}
 use Rattle.account_history.specs.Known.{known}
 use Rattle.account_history.specs.Records.{in_force, records}
-use Rattle.account_history.specs.Stamps.{stamp}
+use Rattle.account_history.specs.Stamps.{clears, stamp}
 use Rattle.account_history.specs.Verifying.{account_verifies}
 use Rattle.account_history.proofs.Running.{failures_in-more, failures_in-nothing, with_attempt}
 
@@ -49,8 +52,17 @@ failures-on h t account e =
     ap (λ found. failures_in (steps h account.id ++ step_on h found account.id (steps h account.id) t (max t.reading (moment h)) ∷ [])) e
     ∙ rw (eq-eqb account.id account.id refl) (failures_in-more (steps h account.id) _ ∙ with_attempt account.lock (failures h account.id) (opens t.reply) (account_verifies (known h) account t.evidences) (max t.reading (moment h)))
 
--- no user has been cleared
-pub stamp-zero : (h : History) (user : List ℕ) → stamp h user ≡ 0
-stamp-zero (From start) user = refl
-stamp-zero (h ▹ Observed who look) user = stamp-zero h user
-stamp-zero (h ▹ Attempted t) user = stamp-zero h user
+-- a statement clears the failures that count, or leaves them
+pub failures-executed : (h : History) (e : Execution) (id : ℕ)
+    → failures (h ▹ Executed e) id
+    ≡ (if is_done e.reply && clears_failures (records h) (given h) e.actor e.statement id then [] else failures h id)
+failures-executed h e id =
+    failures_in-more (steps h id) _
+    ∙ ap (λ kept. if is_done e.reply && clears_failures (records h) (given h) e.actor e.statement id then [] else kept) (append-nil (failures h id))
+
+-- what a stamp is after one more entry
+pub stamp-more : (h : History) (entry : Entry) (user : List ℕ) → stamp h user ≤ stamp (h ▹ entry) user
+stamp-more h entry user = cases (clears h entry user) where
+  cases : (b : Bool) → stamp h user ≤ (if b then stamp h user + 1 else stamp h user)
+  cases true = omega arith
+  cases false = omega arith

@@ -89,7 +89,7 @@ pub failures_in-nothing : (xs : List Step) (now : ℕ) → failures_in (xs ++ no
 failures_in-nothing xs now = failures_in-more xs (no_step now) ∙ append-nil (failures_in xs)
 
 -- a lock that is over doesn't block
-over-unblocked : (rule : LockRule) (locked : Option ℕ) (now : ℕ) → is_over rule locked now ≡ true → is_blocked rule locked now ≡ false
+pub over-unblocked : (rule : LockRule) (locked : Option ℕ) (now : ℕ) → is_over rule locked now ≡ true → is_blocked rule locked now ≡ false
 over-unblocked rule None now e = refl
 over-unblocked rule (Some set) now e = rw e (and_false (tracks rule)) where
   and_false : (b : Bool) → (b && false) ≡ false

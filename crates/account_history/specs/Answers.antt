@@ -5,6 +5,9 @@ use Rattle.factor_chain.specs.declared.credentials.Look.{Look}
 use Rattle.factor_chain.specs.declared.credentials.PastRecord.{PastRecord}
 use Rattle.factor_chain.specs.declared.evidence_list.Evidence.{Evidence}
 use Rattle.factor_chain.specs.declared.evidence_list.Evidence.TheVariants as evidence
+use Rattle.lg_base.specs.declared.errors.Code.{Code}
+use Rattle.lg_base.specs.declared.errors.Code.TheVariants.{KeeperFault}
+use Rattle.stmt_rules.specs.declared.statement.Statement.{Statement}
 use Rattle.login_lock.specs.declared.Tally.{Tally}
 use Rattle.login_lock.specs.declared.LockRule.{LockRule}
 use Rattle.login_lock.specs.Lock.{days_left, is_blocked}
@@ -15,12 +18,15 @@ use Rattle.account_rules.specs.declared.refusals.Rule.TheVariants as rule
 use Rattle.account_rules.specs.Refusals.{first_rule, is_expired}
 use Rattle.account_history.specs.declared.entries.Reply.{Reply}
 use Rattle.account_history.specs.declared.entries.Reply.TheVariants.{Opened, Sandbox, Blocked, Denied, Locked, MustChange}
+use Rattle.account_history.specs.declared.entries.StmtReply.{StmtReply}
+use Rattle.account_history.specs.declared.entries.StmtReply.TheVariants.{Done, Refused}
 use Rattle.account_history.specs.declared.entries.Who.{Who}
 use Rattle.account_history.specs.declared.entries.Who.TheVariants as who
 use Rattle.account_history.specs.Failures.{tally}
 use Rattle.account_history.specs.Histories.{History, moment, start_of}
 use Rattle.account_history.specs.Known.{known, primary_of, secondary_of}
 use Rattle.account_history.specs.Records.{has_id, in_force, is_named, records}
+use Rattle.account_history.specs.Refusals.{first_refusal}
 use Rattle.account_history.specs.Stamps.{stamp}
 use Rattle.account_history.specs.Verifying.{account_verifies}
 
@@ -96,3 +102,17 @@ look_of h (who.Login user) = look_of_user h user (shown_login h (in_force (recor
 look_of h (who.Account name) = look_of_user h name.user (shown_whole h (find (is_named name) (records h)))
 look_of h (who.Own id) =
     let own = find (has_id id) (records h) in look_of_user h (user_of own) (shown_whole h own)
+
+-- why a statement is refused after a history, at a reading of the clock
+abbrev pub statement_refusal : History → Statement → (actor reading : ℕ) → Option Code
+statement_refusal h statement actor reading =
+    first_refusal (records h) statement actor (start_of h).settings (max reading (moment h))
+
+-- what a statement is answered: its first refusal, else an error where the keeper of the accounts failed
+abbrev pub reply_to : Option Code → (failed : Bool) → StmtReply
+reply_to (Some code) failed = Refused code
+reply_to None true = Refused KeeperFault
+reply_to None false = Done
+
+abbrev pub statement_reply : History → Statement → (actor reading : ℕ) → (failed : Bool) → StmtReply
+statement_reply h statement actor reading failed = reply_to (statement_refusal h statement actor reading) failed

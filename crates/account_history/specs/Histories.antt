@@ -7,7 +7,7 @@ use Rattle.std.specs.Prelude.{ℕ, max, List, [], ◌∷◌, ◌++◌}
 use Rattle.factor_chain.specs.declared.credentials.PastRecord.{PastRecord}
 use Rattle.account_rules.specs.declared.accounts.Account.{Account}
 use Rattle.account_history.specs.declared.entries.Entry.{Entry}
-use Rattle.account_history.specs.declared.entries.Entry.TheVariants.{Observed, Attempted}
+use Rattle.account_history.specs.declared.entries.Entry.TheVariants.{Observed, Attempted, Executed}
 use Rattle.account_history.specs.declared.entries.Start.{Start}
 use Rattle.account_history.specs.declared.entries.Log.{Log}
 
@@ -50,3 +50,4 @@ abbrev pub moment : History → ℕ
 moment (From start) = latest_moment start.accounts
 moment (h ▹ Observed who look) = moment h
 moment (h ▹ Attempted attempt) = max attempt.reading (moment h)
+moment (h ▹ Executed execution) = max execution.reading (moment h)

@@ -1,44 +1,16 @@
--- The accounts that stand after a history, and which of them is in force for a user.
---
--- MySQL 8.0 Reference Manual, "Access Control, Stage 1: Connection Verification": of the accounts that match,
--- the one with the most specific host is taken. Here a user's account at `localhost` comes before the one at
--- `%`.
-use Rattle.std.specs.Prelude.{ℕ, ◌==◌, Bool, true, false, ◌&&◌, List, find, Option, Some, None}
-use Rattle.std.specs.Str.{bytes_eq}
-use Rattle.lg_base.specs.declared.names.Host.{Host}
-use Rattle.lg_base.specs.declared.names.Host.TheVariants as host
-use Rattle.lg_base.specs.declared.names.Name.{Name}
+-- The accounts that stand after a history.
+use Rattle.std.specs.Prelude.{max, if◌then◌else◌, List}
 use Rattle.account_rules.specs.declared.accounts.Account.{Account}
-use Rattle.account_history.specs.declared.entries.Entry.TheVariants.{Observed, Attempted}
-use Rattle.account_history.specs.Histories.{History, From, ◌▹◌}
+use Rattle.account_history.specs.declared.entries.Entry.TheVariants.{Observed, Attempted, Executed}
+use Rattle.account_history.specs.Effects.{effect}
+use Rattle.account_history.specs.Given.{given, is_done}
+use Rattle.account_history.specs.Histories.{History, From, ◌▹◌, moment}
+pub use Rattle.account_history.specs.Naming.{has_id, in_force, is_at, is_named, or_else, same_host}
 
--- the accounts after a history, in ascending order of their numbers
+-- the accounts after a history, in ascending order of their numbers: each statement that was done has had its effect
 abbrev pub records : History → List Account
 records (From start) = start.accounts
 records (h ▹ Observed who look) = records h
 records (h ▹ Attempted attempt) = records h
-
-abbrev pub same_host : Host → Host → Bool
-same_host host.Localhost host.Localhost = true
-same_host host.Localhost host.Any = false
-same_host host.Any host.Localhost = false
-same_host host.Any host.Any = true
-
--- the account has this user and this host
-abbrev pub is_at : List ℕ → Host → Account → Bool
-is_at user host account = bytes_eq account.name.user user && same_host account.name.host host
-
--- the account has exactly this name
-abbrev pub is_named : Name → Account → Bool
-is_named name account = is_at name.user name.host account
-
-abbrev pub has_id : ℕ → Account → Bool
-has_id id account = account.id == id
-
-abbrev pub or_else : {T : Type 0} → Option T → Option T → Option T
-or_else (Some x) other = Some x
-or_else None other = other
-
--- the account in force for a user: the one at `localhost`, else the one at `%`
-abbrev pub in_force : List Account → List ℕ → Option Account
-in_force accounts user = or_else (find (is_at user host.Localhost) accounts) (find (is_at user host.Any) accounts)
+records (h ▹ Executed execution) =
+    if is_done execution.reply then effect (given h) execution (max execution.reading (moment h)) (records h) else records h

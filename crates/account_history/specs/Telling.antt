@@ -1,5 +1,6 @@
 -- What an equal stamp tells of a user.
-use Rattle.std.specs.Prelude.{◌≡◌, ℕ, List, map, filter, Bool, Option, Some, option_map}
+use Rattle.std.specs.Prelude.{◌≡◌, ℕ, ◌==◌, List, map, filter, Bool, true, false, ◌&&◌, ◌||◌, Option, Some, None, option_map}
+use Rattle.std.specs.List.{list_any}
 use Rattle.std.specs.Str.{bytes_eq}
 use Rattle.lg_base.specs.declared.names.Name.{Name}
 use Rattle.factor_chain.specs.declared.credentials.Method.{Method}
@@ -38,11 +39,24 @@ kept account = record {
 abbrev pub is_of : List ℕ → Kept → Bool
 is_of user account = bytes_eq account.name.user user
 
--- A user logs in with the same after two histories, and what was known after the first is known after the second.
+-- one of the passwords that the user's accounts have
+abbrev pub has_password : ℕ → Option (Stored × ℕ) → Bool
+has_password id None = false
+has_password id (Some password) = password.1 == id
+
+abbrev pub holds_password : ℕ → Kept → Bool
+holds_password id account = (account.primary_id == id) || has_password id account.secondary
+
+abbrev pub is_own_password : List ℕ → List Account → ℕ → Bool
+is_own_password user accounts id = list_any (λ account. is_of user account && holds_password id account) (map kept accounts)
+
+-- A user logs in with the same after two histories, and what was known of the user's passwords after the first is known
+-- after the second.
 pub record SameFor (user : List ℕ) (h k : History) : Type 0 where
   pub accounts : filter (is_of user) (map kept (records k)) ≡ filter (is_of user) (map kept (records h))
   pub stands : option_map kept (in_force (records k) user) ≡ option_map kept (in_force (records h) user)
-  pub digests : (id : ℕ) (digest : List ℕ) → known h id ≡ Some digest → known k id ≡ Some digest
+  pub digests : (id : ℕ) (digest : List ℕ) → is_own_password user (records h) id ≡ true → known h id ≡ Some digest
+      → known k id ≡ Some digest
 
 -- An equal stamp after further entries tells that nothing has changed for the user.
 abbrev pub StampsTell : Type 0

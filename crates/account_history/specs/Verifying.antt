@@ -6,17 +6,13 @@ use Rattle.factor_chain.specs.Checking.{verifies_on}
 use Rattle.account_rules.specs.declared.accounts.Account.{Account}
 use Rattle.account_history.specs.Histories.{History}
 use Rattle.account_history.specs.Known.{known, primary_of, secondary_of}
-use Rattle.account_history.specs.Records.{in_force, records}
 
 -- evidence on an account, with the digests that are known
 abbrev pub account_verifies : (ℕ → Option (List ℕ)) → Account → List Evidence → Bool
 account_verifies digests account evidences =
     verifies_on (primary_of digests account) (secondary_of digests account) account.labels evidences
 
-abbrev pub verifies_for : History → Option Account → List Evidence → Bool
-verifies_for h None evidences = false
-verifies_for h (Some account) evidences = account_verifies (known h) account evidences
-
--- evidence for a user, after a history
-abbrev pub verifies : History → List ℕ → List Evidence → Bool
-verifies h user evidences = verifies_for h (in_force (records h) user) evidences
+-- evidence on the account in force for a user, after a history: where there is none, nothing verifies
+abbrev pub verifies : History → Option Account → List Evidence → Bool
+verifies h None evidences = false
+verifies h (Some account) evidences = account_verifies (known h) account evidences

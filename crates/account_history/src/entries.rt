@@ -3,8 +3,9 @@
 
 use account_rules::{Account, Settings};
 use factor_chain::{Evidences, Look};
-use lg_base::{Bytes, Host, Items, Name};
+use lg_base::{Bytes, Code, Host, Items, Name};
 use login_lock::LockRule;
+use stmt_rules::Statement;
 
 /// Whose account is looked at.
 #[derive(Debug, Drop)]
@@ -53,6 +54,33 @@ pub struct Attempt {
     pub reply: Reply,
 }
 
+/// What an account statement is answered.
+#[derive(Debug, PartialEq, Eq, Drop)]
+pub enum StmtReply {
+    /// It was done.
+    Done,
+    /// It was refused with this error, and changed no account.
+    Refused(Code),
+}
+
+/// One account statement that was executed.
+#[derive(Debug, Drop)]
+pub struct Execution {
+    pub statement: Statement,
+    /// The salt that a new password of the caching method takes.
+    pub salt: [u8; 20],
+    /// The number of the account that asked for it.
+    pub actor: u64,
+    /// The reading of the clock.
+    pub reading: u64,
+    /// The count of faults of the keeper of the accounts, after the statement.
+    pub count: u64,
+    /// Whether the keeper was called, and whether that call failed.
+    pub called: bool,
+    pub failed: bool,
+    pub reply: StmtReply,
+}
+
 /// One entry of a history.
 #[derive(Debug, Drop)]
 pub enum Entry {
@@ -60,6 +88,8 @@ pub enum Entry {
     Observed { who: Who, look: Look },
     /// An attempt to log in.
     Attempted(Attempt),
+    /// An account statement was executed.
+    Executed(Execution),
 }
 
 /// An entry with its maker: the number of the session that made it, as a list of numbers.

@@ -1,12 +1,28 @@
 //! Laws of the model. Each function does nothing: its contract is the law.
 
+ghost use Rattle.account_history.specs.Deciding.{AttemptsAreDecided};
 ghost use Rattle.account_history.specs.Examples.{ExpiryExample, LockExample};
+ghost use Rattle.account_history.specs.Numbers.{NumbersRise, NumbersStayGone};
 ghost use Rattle.account_history.specs.Telling.{StampsTell};
+
+/// A session opens exactly where an account is in force for the user, no lock after failed logins is in force on it, each
+/// factor verifies, it isn't locked, and its password hasn't expired beyond use. Else the reply names the first of these
+/// conditions that doesn't hold.
+pub fn attempts_are_decided()
+    ensures { AttemptsAreDecided }
+{}
 
 /// An equal stamp after further entries tells that a user logs in with the same, and that what was known of
 /// it is known still.
 pub fn stamps_tell()
     ensures { StampsTell }
+{}
+
+/// The numbers of accounts rise in every history, and none is given twice: a look at one's own account by its number
+/// never shows another.
+pub fn numbers_are_given_once()
+    ensures rise { NumbersRise }
+    ensures gone { NumbersStayGone }
 {}
 
 /// Worked examples: a lock after three failures, and an expiry.

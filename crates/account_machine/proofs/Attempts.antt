@@ -1,9 +1,9 @@
 -- One attempt on the rows of a history.
-use Rattle.std.proofs.Common.{◌≡◌, refl, ap, sym, ◌∙◌, ℕ, max, ◌<◌, ◌≤◌, List, length, map, Bool, Option, Some, None, option_map, subst, arith, slice_get, slice_set, slice_index_or}
-use Rattle.std.proofs.lemmas.Option.{slice_get-map, slice_get_within, get_or_from_slice_get}
+use Rattle.std.proofs.Common.{◌≡◌, refl, ap, sym, ◌∙◌, ℕ, max, ◌<◌, ◌≤◌, List, length, Option, Some, None, option_map, subst, arith, slice_get, slice_index_or}
+use Rattle.std.proofs.lemmas.Option.{slice_get-map, get_or_from_slice_get}
 use Rattle.std.proofs.lemmas.List.{length-map}
 use Rattle.factor_chain.specs.declared.evidence_list.Evidence.{Evidence}
-use Rattle.login_lock.specs.Lock.{IsTally, after, locked_at, tally_of}
+use Rattle.login_lock.specs.Lock.{IsTally, after, tally_of}
 use Rattle.account_rules.specs.declared.accounts.Account.{Account}
 use Rattle.account_history.specs.declared.entries.Attempt.{Attempt}
 use Rattle.account_history.specs.declared.entries.Log.{Log}
@@ -11,6 +11,7 @@ use Rattle.account_rules.specs.declared.accounts.Settings.{Settings}
 use Rattle.account_history.specs.Answers.{attempt_reply, look_of}
 use Rattle.account_history.specs.declared.entries.Who.{Who}
 use Rattle.factor_chain.specs.declared.credentials.Look.{Look}
+use Rattle.account_machine.specs.declared.stamps.Stamps.{Stamps}
 use Rattle.account_machine.specs.Stands.{Stands}
 use Rattle.account_machine.specs.Looks.{account_at, accounts_of}
 use Rattle.account_history.specs.declared.entries.Entry.TheVariants.{Attempted, Observed}
@@ -23,9 +24,9 @@ use Rattle.account_history.specs.Verifying.{account_verifies}
 use Rattle.account_history.proofs.Moments.{failures-upto, upto-get}
 use Rattle.account_history.proofs.OneMore.{failures-on, history-noted}
 use Rattle.account_machine.proofs.Places.{in_force-place, item-at, place-within}
-use Rattle.account_machine.proofs.Written.{accounts-rows, rows-observed, rows-on}
+use Rattle.account_machine.proofs.Written.{accounts-rows, rows-observed}
 use Rattle.account_machine.specs.declared.rows.Row.{Row}
-use Rattle.account_machine.specs.Rows.{Rise, nothing_known, place_in_force, row_of, rows_of}
+use Rattle.account_machine.specs.Rows.{nothing_known, place_in_force, row_of, rows_of}
 
 -- the account at the place of a user in the rows of a history
 pub record AtPlace (h : History) (user : List ℕ) (place : ℕ) (row : Row) : Type 0 where
@@ -100,30 +101,32 @@ pub max-moved : (m r k : ℕ) → m ≡ k → max m r ≡ max r k
 max-moved m r k e = omega arith
 
 -- what stands after an attempt
-pub stands-attempted : (log : Log) (t : Attempt) (rows new : List Row) (settings : Settings) (before now : ℕ) (log' : Log)
-    → Stands rows settings before (history log) → log' ≡ noted log (Attempted t) → new ≡ rows_of (history log ▹ Attempted t)
+pub stands-attempted : (log : Log) (t : Attempt) (rows new : List Row) (settings : Settings) (before now : ℕ) (stamps : Stamps) (changes : ℕ) (log' : Log)
+    → Stands rows settings before stamps changes (history log) → log' ≡ noted log (Attempted t) → new ≡ rows_of (history log ▹ Attempted t)
     → now ≡ max before t.reading
-    → t.reply ≡ attempt_reply (history log) t.user t.evidences t.flags t.reading → Stands new settings now (history log')
-stands-attempted log t rows new settings before now log' s e r m a =
-    let P : History → Type 0 = λ h. Stands new settings now h in
+    → t.reply ≡ attempt_reply (history log) t.user t.evidences t.flags t.reading → Stands new settings now stamps changes (history log')
+stands-attempted log t rows new settings before now stamps changes log' s e r m a =
+    let P : History → Type 0 = λ h. Stands new settings now stamps changes h in
     subst P (sym (ap history e ∙ history-noted log (Attempted t))) (record {
       same_rows = r;
       same_settings = s.same_settings;
       same_moment = m ∙ max-moved before t.reading (moment (history log)) s.same_moment;
+      same_stamps = record { same = s.same_stamps.same; most = s.same_stamps.most };
       rising = s.rising;
       few_labels = s.few_labels;
       legal = (s.legal, a);
     })
 
 -- what stands after a look
-pub stands-observed : (log : Log) (who : Who) (look : Look) (rows : List Row) (settings : Settings) (now : ℕ) (log' : Log)
-    → Stands rows settings now (history log) → log' ≡ noted log (Observed who look) → look ≡ look_of (history log) who → Stands rows settings now (history log')
-stands-observed log who look rows settings now log' s e a =
-    let P : History → Type 0 = λ h. Stands rows settings now h in
+pub stands-observed : (log : Log) (who : Who) (look : Look) (rows : List Row) (settings : Settings) (now : ℕ) (stamps : Stamps) (changes : ℕ) (log' : Log)
+    → Stands rows settings now stamps changes (history log) → log' ≡ noted log (Observed who look) → look ≡ look_of (history log) who → Stands rows settings now stamps changes (history log')
+stands-observed log who look rows settings now stamps changes log' s e a =
+    let P : History → Type 0 = λ h. Stands rows settings now stamps changes h in
     subst P (sym (ap history e ∙ history-noted log (Observed who look))) (record {
       same_rows = s.same_rows ∙ rows-observed (history log) who look;
       same_settings = s.same_settings;
       same_moment = s.same_moment;
+      same_stamps = record { same = s.same_stamps.same; most = s.same_stamps.most };
       rising = s.rising;
       few_labels = s.few_labels;
       legal = (s.legal, a);

@@ -1,6 +1,7 @@
 mod Attempts
 mod Labelled
 mod Places
+mod Raised
 mod Seen
 mod Starts
 mod Written

@@ -1,15 +1,14 @@
 -- The place that is found is that of the account in force.
-use Rattle.std.proofs.Common.{◌≡◌, refl, ap, sym, ◌∙◌, ℕ, zero, suc, ◌+◌, ◌<◌, ◌≤◌, List, [], ◌∷◌, length, map, find, Bool, true, false, cond, Option, Some, None, option_map, subst, arith, slice_get, nat_lt, ltb-true, ltb-false}
+use Rattle.std.proofs.Common.{◌≡◌, refl, ℕ, zero, suc, ◌<◌, List, [], ◌∷◌, length, find, Bool, true, false, cond, Some, None, option_map, arith, slice_get, nat_lt, ltb-true, ltb-false}
 use Rattle.std.specs.List.{position, position_or_len}
 use Rattle.std.proofs.lemmas.List.Folds.{find_at}
-use Rattle.std.proofs.lemmas.Option.{slice_get_past, slice_get-get_or}
-use Rattle.lg_base.specs.declared.names.Host.{Host}
+use Rattle.std.proofs.lemmas.Option.{slice_get_past}
 use Rattle.lg_base.specs.declared.names.Host.TheVariants as host
 use Rattle.account_rules.specs.declared.accounts.Account.{Account}
 use Rattle.account_history.specs.Records.{in_force, is_at, or_else}
 use Rattle.account_machine.specs.declared.rows.Row.{Row}
 use Rattle.account_machine.specs.Looks.{account_at, accounts_of}
-use Rattle.account_machine.specs.Rows.{place_at, place_in_force}
+use Rattle.account_machine.specs.Rows.{place_in_force}
 
 -- a test of accounts finds the account of the row that the same test of rows finds
 pub find-row : (p : Account → Bool) (rows : List Row) → find p (accounts_of rows) ≡ option_map (λ row. row.account) (find (λ row. p row.account) rows)

@@ -1,17 +1,14 @@
 -- What is seen by the rows is what is seen after the history.
-use Rattle.std.proofs.Common.{◌≡◌, refl, ap, sym, ◌∙◌, ℕ, List, [], Bool, true, false, find, Option, Some, None, Result, Ok, Err, IfOk, option_map, option_copied, Bor}
+use Rattle.std.proofs.Common.{◌≡◌, refl, ap, sym, ◌∙◌, ℕ, List, Bool, true, false, find, Option, Some, None, Result, Ok, Err, IfOk, option_map}
 use Rattle.std.specs.List.{position}
 use Rattle.lg_base.specs.declared.names.Name.{Name}
 use Rattle.factor_chain.specs.declared.credentials.Look.{Look}
-use Rattle.factor_chain.specs.declared.credentials.InForce.{InForce}
 use Rattle.account_rules.specs.declared.accounts.Account.{Account}
-use Rattle.account_history.specs.declared.entries.Who.{Who}
 use Rattle.account_history.specs.declared.entries.Who.TheVariants as who
 use Rattle.account_history.specs.Answers.{look_of, shown_login, shown_whole, user_of}
 use Rattle.account_history.specs.Histories.{History}
 use Rattle.account_history.specs.Records.{has_id, in_force, is_named, records}
 use Rattle.account_history.specs.Stamps.{stamp}
-use Rattle.account_history.proofs.OneMore.{stamp-zero}
 use Rattle.account_machine.specs.declared.rows.Row.{Row}
 use Rattle.account_machine.specs.Looks.{account_at, accounts_of, plain_look, shown_account}
 use Rattle.account_machine.specs.Rows.{rows_of}
@@ -33,22 +30,22 @@ found-at h rows p e =
     sym (find-row p rows ∙ find-position (λ row. p row.account) rows)
     ∙ ap (λ rs. find p (accounts_of rs)) e ∙ ap (λ accounts. find p accounts) (accounts-rows h)
 
-pub login-look : (h : History) (user said : List ℕ) (found : Option Account) → said ≡ user → found ≡ in_force (records h) user
-    → plain_look said false found ≡ look_of h (who.Login user)
-login-look h user said found u f =
-    λ i. record { user = u i; stamp = sym (stamp-zero h user) i; in_force = (ap (option_map (shown_account false)) f ∙ login-is h (in_force (records h) user)) i }
+pub login-look : (h : History) (user said : List ℕ) (n : ℕ) (found : Option Account) → said ≡ user → n ≡ stamp h said → found ≡ in_force (records h) user
+    → plain_look said n false found ≡ look_of h (who.Login user)
+login-look h user said n found u c f =
+    λ i. record { user = u i; stamp = (c ∙ ap (stamp h) u) i; in_force = (ap (option_map (shown_account false)) f ∙ login-is h (in_force (records h) user)) i }
 
-pub named-look : (h : History) (name : Name) (said : List ℕ) (found : Option Account) → said ≡ name.user → found ≡ find (is_named name) (records h)
-    → plain_look said true found ≡ look_of h (who.Account name)
-named-look h name said found u f =
-    λ i. record { user = u i; stamp = sym (stamp-zero h name.user) i; in_force = (ap (option_map (shown_account true)) f ∙ whole-is h (find (is_named name) (records h))) i }
+pub named-look : (h : History) (name : Name) (said : List ℕ) (n : ℕ) (found : Option Account) → said ≡ name.user → n ≡ stamp h said → found ≡ find (is_named name) (records h)
+    → plain_look said n true found ≡ look_of h (who.Account name)
+named-look h name said n found u c f =
+    λ i. record { user = u i; stamp = (c ∙ ap (stamp h) u) i; in_force = (ap (option_map (shown_account true)) f ∙ whole-is h (find (is_named name) (records h))) i }
 
-pub own-look : (h : History) (id : ℕ) (said : List ℕ) (found : Option Account) → said ≡ user_of found → found ≡ find (has_id id) (records h)
-    → plain_look said true found ≡ look_of h (who.Own id)
-own-look h id said found u f =
+pub own-look : (h : History) (id : ℕ) (said : List ℕ) (n : ℕ) (found : Option Account) → said ≡ user_of found → n ≡ stamp h said → found ≡ find (has_id id) (records h)
+    → plain_look said n true found ≡ look_of h (who.Own id)
+own-look h id said n found u c f =
     λ i. record {
       user = (u ∙ ap user_of f) i;
-      stamp = sym (stamp-zero h (user_of (find (has_id id) (records h)))) i;
+      stamp = (c ∙ ap (stamp h) (u ∙ ap user_of f)) i;
       in_force = (ap (option_map (shown_account true)) f ∙ whole-is h (find (has_id id) (records h))) i;
     }
 

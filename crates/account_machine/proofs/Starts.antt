@@ -9,6 +9,8 @@ use Rattle.account_history.specs.Histories.{From, history, latest_moment}
 use Rattle.factor_chain.specs.declared.credentials.Method.TheVariants as method
 use Rattle.account_machine.specs.Openings.{native_accounts, native_stored, opening_accounts, opening_start, plain_account}
 use Rattle.account_machine.specs.Rows.{Rise, new_rows, row_of}
+use Rattle.account_machine.specs.Counting.{stamp_in}
+use Rattle.account_machine.specs.declared.stamps.Stamps.{Stamps}
 use Rattle.account_machine.specs.Stands.{Stands}
 use Rattle.account_machine.specs.declared.rows.Row.{Row}
 use Rattle.account_machine.proofs.Labelled.{opening-few}
@@ -34,15 +36,16 @@ rows-new : (log : Log) (accounts : List Account) → new_rows accounts ≡ map (
 rows-new log [] = refl
 rows-new log (account ∷ accounts) = ap (λ (rows : List Row). row_of (From log.start) account ∷ rows) (rows-new log accounts)
 
-pub stands-opening : (extra : List Opening) (settings : Settings) (rows : List Row) (log : Log) → rows ≡ new_rows (opening_accounts extra)
-    → log ≡ record { start = opening_start extra settings; entries = [] } → Stands rows settings 0 (history log)
-stands-opening extra settings rows log r e =
-    let P : Log → Type 0 = λ l. Stands rows settings 0 (history l) in
+pub stands-opening : (extra : List Opening) (settings : Settings) (rows : List Row) (stamps : Stamps) (log : Log) → rows ≡ new_rows (opening_accounts extra)
+    → ((user : List ℕ) → stamp_in stamps user ≡ 0) → log ≡ record { start = opening_start extra settings; entries = [] } → Stands rows settings 0 stamps 0 (history log)
+stands-opening extra settings rows stamps log r z e =
+    let P : Log → Type 0 = λ l. Stands rows settings 0 stamps 0 (history l) in
     let first : Log = record { start = opening_start extra settings; entries = [] } in
     subst P (sym e) (record {
       same_rows = r ∙ rows-new first (opening_accounts extra);
       same_settings = refl;
       same_moment = sym (ap (λ (n : ℕ). max 0 n) (native-moment 2 extra));
+      same_stamps = record { same = z; most = λ user. omega arith };
       rising = (omega arith, native-rise 1 2 extra (omega arith));
       few_labels = opening-few extra;
       legal = tt;

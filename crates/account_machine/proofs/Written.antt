@@ -1,9 +1,9 @@
 -- One row written is the rows of the history with the attempt.
-use Rattle.std.proofs.Common.{◌≡◌, ◌≢◌, refl, ap, sym, ◌∙◌, ℕ, zero, suc, ◌+◌, ◌<◌, ◌≤◌, ◌==◌, List, [], ◌∷◌, length, map, Bool, true, false, Option, Some, None, subst, arith, slice_get, slice_set, ne_eqb}
+use Rattle.std.proofs.Common.{◌≡◌, ◌≢◌, refl, ap, sym, ℕ, zero, suc, ◌<◌, ◌==◌, List, [], ◌∷◌, map, false, Some, None, subst, arith, slice_get, slice_set, ne_eqb}
 use Rattle.account_rules.specs.declared.accounts.Account.{Account}
 use Rattle.account_history.specs.declared.entries.Attempt.{Attempt}
 use Rattle.account_history.specs.declared.entries.Entry.TheVariants.{Observed, Attempted}
-use Rattle.account_history.specs.Failures.{failures, tally}
+use Rattle.account_history.specs.Failures.{failures}
 use Rattle.account_history.specs.Histories.{History, ◌▹◌}
 use Rattle.account_history.specs.Records.{in_force, records}
 use Rattle.account_history.proofs.OneMore.{failures-nobody, failures-observed, failures-other}

@@ -1,5 +1,5 @@
 -- A look that agrees with the accounts as they are.
-use Rattle.std.specs.Prelude.{◌≡◌, ℕ, List, Option, Some, None, option_map}
+use Rattle.std.specs.Prelude.{◌≡◌, None, option_map}
 use Rattle.factor_chain.specs.declared.credentials.Credential.{Credential}
 use Rattle.factor_chain.specs.declared.credentials.InForce.{InForce}
 use Rattle.factor_chain.specs.declared.credentials.Look.{Look}

@@ -1,4 +1,5 @@
 pub mod Agreeing
+pub mod Counting
 pub mod Labels
 pub mod Looks
 pub mod Openings

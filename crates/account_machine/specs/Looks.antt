@@ -4,7 +4,6 @@ use Rattle.std.specs.List.{position}
 use Rattle.lg_base.specs.declared.names.Name.{Name}
 use Rattle.factor_chain.specs.declared.credentials.InForce.{InForce}
 use Rattle.factor_chain.specs.declared.credentials.Look.{Look}
-use Rattle.account_history.specs.Answers.{user_of}
 use Rattle.account_history.specs.Known.{primary_of, secondary_of}
 use Rattle.account_history.specs.Records.{has_id, is_named}
 use Rattle.account_rules.specs.declared.accounts.Account.{Account}
@@ -39,5 +38,5 @@ shown_account whole account = record {
 }
 
 -- a look of a user at an account
-abbrev pub plain_look : List ℕ → Bool → Option Account → Look
-plain_look user whole account = record { user = user; stamp = 0; in_force = option_map (shown_account whole) account }
+abbrev pub plain_look : List ℕ → (stamp : ℕ) → Bool → Option Account → Look
+plain_look user stamp whole account = record { user = user; stamp = stamp; in_force = option_map (shown_account whole) account }

@@ -1,11 +1,12 @@
 -- The rows that the machine keeps, and the history that they stand for.
-use Rattle.std.specs.Prelude.{◌≡◌, ℕ, ◌<◌, List, [], ◌∷◌, map, Option, None}
+use Rattle.std.specs.Prelude.{ℕ, List, map, Option, None}
 use Rattle.std.specs.List.{position}
 use Rattle.lg_base.specs.declared.names.Host.{Host}
 use Rattle.lg_base.specs.declared.names.Host.TheVariants as host
 use Rattle.account_rules.specs.declared.accounts.Account.{Account}
 use Rattle.account_history.specs.Failures.{tally}
 use Rattle.account_history.specs.Histories.{History}
+pub use Rattle.account_history.specs.Numbers.{Rise}
 use Rattle.account_history.specs.Records.{is_at, or_else, records}
 use Rattle.account_machine.specs.declared.rows.Row.{Row}
 
@@ -15,11 +16,6 @@ row_of h account = record { account = account; tally = tally h account }
 
 abbrev pub rows_of : History → List Row
 rows_of h = map (row_of h) (records h)
-
--- the accounts' numbers rise, the first of them above a number
-abbrev pub Rise : ℕ → List Account → Type 0
-Rise low [] = Unit {0}
-Rise low (account ∷ accounts) = (low < account.id) × Rise account.id accounts
 
 -- the place of the account of a user at a host
 abbrev pub place_at : List ℕ → Host → List Row → Option ℕ

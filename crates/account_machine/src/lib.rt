@@ -13,6 +13,7 @@ pub mod machine;
 mod notes;
 mod openings;
 pub mod rows;
+pub mod stamps;
 #[cfg(test)]
 mod tests;
 

@@ -4,9 +4,12 @@ ghost use Rattle.account_history.specs.Answers.{look_of, user_of as user_of_acco
 ghost use Rattle.account_history.specs.Histories.{History};
 ghost use Rattle.account_machine.specs.Looks.{account_at as account_at_place, place_named, place_numbered, plain_look, shown_account};
 ghost use Rattle.account_machine.specs.Rows.{rows_of};
-ghost use Rattle.std.specs.Prelude.{◌≡◌, IfOk, option_copied, Some, None};
+ghost use Rattle.account_history.specs.Stamps.{stamp};
+ghost use Rattle.account_machine.specs.Counting.{stamp_in};
+ghost use Rattle.std.specs.Prelude.{◌≡◌, ◌<◌, ◌^◌, ℕ, List, IfOk, option_copied, Some, None};
 
 use crate::rows::{Row, find_in_force, is_account_at, primary, secondary};
+use crate::stamps::Stamps;
 use account_history::Who;
 use account_rules::Account;
 use factor_chain::{InForce, Look, PastRecord};
@@ -77,10 +80,11 @@ fn show(alloc: Global, account: &Account, whole: bool) -> Result<InForce, Memory
 fn make_look(
     alloc: Global,
     user: &[u8],
+    stamp: u64,
     account: Option<&Account>,
     whole: bool,
 ) -> Result<Look, Memory>
-    ensures { IfOk result (λ made. made ≡ plain_look user.now whole (option_copied account.entry)) }
+    ensures { IfOk result (λ made. made ≡ plain_look user.now stamp whole (option_copied account.entry)) }
 {
     let in_force = match account {
         Some(account) => Some(show(alloc, account, whole)?),
@@ -88,27 +92,32 @@ fn make_look(
     };
     Ok(Look {
         user: Bytes::copy(alloc, user)?,
-        stamp: 0,
+        stamp,
         in_force,
     })
 }
 
 /// What is seen of whose account.
-pub fn look_at(alloc: Global, rows: &[Row], who: &Who) -> Result<Look, Memory>
-    ensures { (h : History) → rows.now ≡ rows_of h → IfOk result (λ look. look ≡ look_of h who.now) }
+pub fn look_at(alloc: Global, rows: &[Row], stamps: &Stamps, who: &Who) -> Result<Look, Memory>
+    requires { (user : List ℕ) → stamp_in stamps.now user < 2 ^ 64 }
+    ensures { (h : History) → rows.now ≡ rows_of h → ((user : List ℕ) → stamp_in stamps.now user ≡ stamp h user)
+        → IfOk result (λ look. look ≡ look_of h who.now) }
 {
     match who {
         Who::Login(user) => {
             let found = account_at(rows, find_in_force(rows, user.as_slice()));
-            make_look(alloc, user.as_slice(), found, false)
+            let user = user.as_slice();
+            make_look(alloc, user, stamps.of(user), found, false)
         }
         Who::Account(name) => {
             let found = account_at(rows, find_named(rows, name));
-            make_look(alloc, name.user.as_slice(), found, true)
+            let user = name.user.as_slice();
+            make_look(alloc, user, stamps.of(user), found, true)
         }
         Who::Own(id) => {
             let found = account_at(rows, find_numbered(rows, *id));
-            make_look(alloc, user_of(found), found, true)
+            let user = user_of(found);
+            make_look(alloc, user, stamps.of(user), found, true)
         }
     }
 }

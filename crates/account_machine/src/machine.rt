@@ -4,6 +4,7 @@ use crate::looks::look_at;
 use crate::notes::{AttemptNote, LookNote, StartNote};
 use crate::openings::opening_rows;
 use crate::rows::{Row, attempt_on};
+use crate::stamps::Stamps;
 use account_history::{Log, Opening, Reply, Who};
 use account_rules::Settings;
 use factor_chain::{Checked, Evidences, Look};
@@ -18,6 +19,9 @@ pub struct Accounts {
     rows: Vec<Row>,
     settings: Settings,
     moment: u64,
+    stamps: Stamps,
+    /// How often a stamp was raised: no stamp is greater.
+    changes: u64,
     log: GhostValue<Log>,
 }
 
@@ -30,7 +34,7 @@ impl Model for Accounts {
 
     ghost view = { λ a. a.log.value };
 
-    ghost invariant = { λ a. Stands a.rows.items a.settings a.moment (history a.log.value) };
+    ghost invariant = { λ a. Stands a.rows.items a.settings a.moment a.stamps a.changes (history a.log.value) };
 }
 
 impl Accounts {
@@ -57,6 +61,8 @@ impl Accounts {
             rows,
             settings,
             moment: 0,
+            stamps: Stamps::new(alloc),
+            changes: 0,
             log: GhostValue::of(&StartNote { extra, settings }),
         })
     }
@@ -68,7 +74,8 @@ impl Accounts {
         ensures labels { IfOk result (λ look. IfSome look.in_force ShowsFewLabels) }
     {
         let _log = &self.log;
-        look_at(alloc, self.rows.as_slice(), who)
+        let _changes = self.changes;
+        look_at(alloc, self.rows.as_slice(), &self.stamps, who)
     }
 
     /// Notes that a look was answered. It has no effect but the entry of the history.
@@ -87,8 +94,9 @@ impl Accounts {
     pub fn stamp(&self, user: &[u8]) -> u64
         ensures { result ≡ stamp (history self.now) user.now }
     {
-        let _ = user;
-        0
+        let _log = &self.log;
+        let _changes = self.changes;
+        self.stamps.of(user)
     }
 
     /// That the history is legal.

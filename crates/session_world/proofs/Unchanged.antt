@@ -1,6 +1,6 @@
 -- An event that prints that it is idle changes nothing.
 use Rattle.std.proofs.Common.{◌≡◌, refl, ap, ℕ, zero, suc, if◌then◌else◌, Bool, true, false, List, [], ◌∷◌, ◌++◌, append-nil, Option, Some, None, is_some, option_map, take, drop, arith}
-use Rattle.account_history.specs.declared.entries.Entry.TheVariants.{Observed, Attempted}
+use Rattle.account_history.specs.declared.entries.Entry.TheVariants.{Observed, Attempted, Executed}
 use Rattle.login_client.specs.declared.claims.Claim.{Claim}
 use Rattle.login_client.specs.declared.ends.LoginEnd.{LoginEnd}
 use Rattle.login_client.specs.declared.ends.LoginEnd.TheVariants as end
@@ -17,7 +17,7 @@ use Rattle.session_world.specs.declared.calls.Peer.{Peer}
 use Rattle.session_world.specs.declared.calls.Peer.TheVariants.{Closed, Failed}
 use Rattle.session_world.specs.declared.running.Task.{Task}
 use Rattle.session_world.specs.declared.running.Task.TheVariants.{Answers, GoesDown, GoesUp, CutsOff, Rests}
-use Rattle.world_table.specs.Printing.{Adds, Ends, Idle, Line, Sends, Stale, attempt_line, line_text, look_line}
+use Rattle.world_table.specs.Printing.{Adds, Ends, Idle, Line, Sends, Stale, attempt_line, line_text, look_line, statement_line}
 use Rattle.session_world.proofs.Idling.{AreBusy, IsBusy, IsBusyMove, going_busy, move_busy}
 use Rattle.session_world.proofs.Tasking.{of_task}
 
@@ -37,10 +37,11 @@ first_byte [] = 0
 first_byte (b ∷ bytes) = b
 
 not_idle : (number : ℕ) (printed : List Printed) → PrintsBusy printed → printed_text printed ≡ printed_text (Of number Idle ∷ []) → ⊥
-unfolding line_text look_line attempt_line result_line
+unfolding line_text look_line attempt_line statement_line result_line
 not_idle number [] busy e = let same : 0 ≡ 105 = ap first_byte e in absurd (omega (arith, same))
 not_idle number (Of session (Sends sent) ∷ more) busy e = let same : 115 ≡ 105 = ap first_byte e in absurd (omega (arith, same))
 not_idle number (Of session (Adds k (Observed who look)) ∷ more) busy e = let same : 101 ≡ 105 = ap first_byte e in absurd (omega (arith, same))
+not_idle number (Of session (Adds k (Executed execution)) ∷ more) busy e = let same : 101 ≡ 105 = ap first_byte e in absurd (omega (arith, same))
 not_idle number (Of session (Adds k (Attempted attempt)) ∷ more) busy e = let same : 101 ≡ 105 = ap first_byte e in absurd (omega (arith, same))
 not_idle number (Of session Stale ∷ more) busy e = let same : 115 ≡ 105 = ap first_byte e in absurd (omega (arith, same))
 not_idle number (Of session (Ends how) ∷ more) busy e = let same : 101 ≡ 105 = ap first_byte e in absurd (omega (arith, same))

@@ -2,9 +2,12 @@
 use Rattle.std.specs.Prelude.{ℕ, true, false, List, [], ◌∷◌, ◌++◌, codes, decimal}
 use Rattle.hex.specs.Hex.{encode_lower}
 use Rattle.account_history.specs.declared.entries.Entry.{Entry}
-use Rattle.account_history.specs.declared.entries.Entry.TheVariants.{Observed, Attempted}
+use Rattle.account_history.specs.declared.entries.Entry.TheVariants.{Observed, Attempted, Executed}
 use Rattle.account_history.specs.declared.entries.Reply.{Reply}
 use Rattle.account_history.specs.declared.entries.Reply.TheVariants.{Opened, Sandbox, Blocked, Denied, Locked, MustChange}
+use Rattle.account_history.specs.declared.entries.StmtReply.{StmtReply}
+use Rattle.account_history.specs.declared.entries.StmtReply.TheVariants as stmt
+use Rattle.lg_base.specs.Errors.{number_of}
 use Rattle.session_talk.specs.declared.ends.SessionEnd.{SessionEnd}
 use Rattle.session_talk.specs.declared.ends.SessionEnd.TheVariants.{Quit, PeerClosed, Refused, Bad, LinkFault, SessionLong, Memory}
 use Rattle.packet_stream.specs.Sent.{Sent}
@@ -43,9 +46,18 @@ unfoldable pub attempt_line : (number : ℕ) → List ℕ → Reply → List ℕ
 attempt_line number user reply =
     codes "entry " ++ decimal number ++ 32 ∷ codes "attempt " ++ hex_word user ++ 32 ∷ reply_word reply ++ 10 ∷ []
 
+-- a statement: the number of its error, or 0
+abbrev pub stmt_number : StmtReply → ℕ
+stmt_number stmt.Done = 0
+stmt_number (stmt.Refused code) = number_of code
+
+unfoldable pub statement_line : (number : ℕ) → StmtReply → List ℕ
+statement_line number reply = codes "entry " ++ decimal number ++ 32 ∷ codes "statement " ++ decimal (stmt_number reply) ++ 10 ∷ []
+
 abbrev pub entry_line : (number : ℕ) → Entry → List ℕ
 entry_line number (Observed who look) = look_line number look.user
 entry_line number (Attempted attempt) = attempt_line number attempt.user attempt.reply
+entry_line number (Executed execution) = statement_line number execution.reply
 
 unfoldable pub end_words : SessionEnd → List ℕ
 end_words Quit = codes "quit"

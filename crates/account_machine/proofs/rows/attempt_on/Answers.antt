@@ -1,14 +1,11 @@
-use Rattle.std.proofs.Common.{◌≡◌, ◌≤◌, max, ap, sym, ◌∙◌, refl, subst, Option, Some, None, ℕ, List, slice_set, rules, arith}
-use Rattle.account_rules.specs.declared.accounts.Account.{Account}
+use Rattle.std.proofs.Common.{◌≡◌, ap, sym, ◌∙◌, refl, Some, None, slice_set, arith}
 use Rattle.account_history.specs.Answers.{account_reply, reply_for}
-use Rattle.account_history.specs.Histories.{History, start_of, ◌▹◌}
-use Rattle.account_history.specs.Failures.{failures}
+use Rattle.account_history.specs.Histories.{History, ◌▹◌}
 use Rattle.account_history.specs.Known.{known}
 use Rattle.account_history.specs.Verifying.{account_verifies}
 use Rattle.account_history.specs.Records.{in_force, records}
 use Rattle.account_history.specs.declared.entries.Entry.TheVariants.{Attempted}
-use Rattle.login_lock.specs.Lock.{tally_of}
-use Rattle.account_machine.proofs.Attempts.{AtPlace, at-place, is-tally, nobody-at, row-after, set-before, tally-after}
+use Rattle.account_machine.proofs.Attempts.{at-place, is-tally, nobody-at, row-after, set-before, tally-after}
 use Rattle.account_machine.proofs.Written.{rows-nobody, rows-on}
 use Rattle.account_machine.specs.Rows.{place_in_force, row_of}
 use Rattle.account_machine.specs.declared.rows.Row.{Row}

@@ -1,7 +1,8 @@
-use Rattle.std.proofs.Common.{sym}
-use Rattle.account_history.specs.Histories.{history}
-use Rattle.account_history.proofs.OneMore.{stamp-zero}
+use Rattle.std.proofs.Common.{arith}
 use Rattle.account_machine.proofs.machine.Accounts.stamp.Goals as goal
 
-pub returns : goal.returns
-returns c = sym (stamp-zero (history c.args.self.now) c.args.user.now)
+pub of-requires : goal.of-requires
+of-requires c =
+    let same = c.self.invariant.same_stamps.same c.args.user.now in
+    let most = c.self.invariant.same_stamps.most c.args.user.now in
+    omega (arith, same, most)
