@@ -25,8 +25,6 @@ pub mod sessions;
 pub mod stage;
 pub mod state;
 mod telling;
-#[cfg(test)]
-mod tests;
 pub mod turns;
 pub mod under_way;
 pub mod world;

@@ -95,7 +95,7 @@ fn a_new_session_is_given_a_nonce(rt: HostRuntime) -> Result<(), Fail> {
 
 #[test]
 fn each_ask_has_its_kinds_of_answers(rt: HostRuntime) -> Result<(), Fail> {
-    let driven = responded(&rt, FLAGS, b"ann", &ANSWER, NATIVE)?;
+    let driven = responded(&rt, FLAGS, &ANSWER, NATIVE)?;
     check_answers(&rt, &driven.session, LOOK)?;
     let rows = [
         (Given::Looked(Shown::Known, 7), DRAW),
@@ -116,7 +116,7 @@ fn each_ask_has_its_kinds_of_answers(rt: HostRuntime) -> Result<(), Fail> {
 
 /// A session that waits for a fresh nonce.
 fn drawing(rt: &(impl Abort + AllocGlobal)) -> Result<Driven, Memory> {
-    let driven = responded(rt, FLAGS, b"ann", &ANSWER, NATIVE)?;
+    let driven = responded(rt, FLAGS, &ANSWER, NATIVE)?;
     take(rt, driven, Given::Looked(Shown::Known, 7))
 }
 

@@ -15,7 +15,6 @@ use packet_frame::FrameFault;
 use session_talk::{Action, Ask, Input, SessionEnd};
 use std::alloc::Global;
 use std::process::Abort;
-use std::test::Fail;
 
 /// An answer to the last ask.
 #[derive(Clone, Copy)]
@@ -80,22 +79,7 @@ pub const REFUSED: Asked<'static> = Asked::Ended(SessionEnd::Refused { number: 1
 
 /// A line of a script: an answer, the sequence id of what is sent next, the payload that is sent, where it isn't
 /// empty, and what is asked.
-#[derive(Clone, Copy)]
-pub struct ScriptLine<'a> {
-    given: Given<'a>,
-    first: u8,
-    sent: &'a [u8],
-    asked: Asked<'a>,
-}
-
-pub fn line<'a>(given: Given<'a>, first: u8, sent: &'a [u8], asked: Asked<'a>) -> ScriptLine<'a> {
-    ScriptLine {
-        given,
-        first,
-        sent,
-        asked,
-    }
-}
+pub type Line<'a> = (Given<'a>, u8, &'a [u8], Asked<'a>);
 
 /// A session, and what it did last.
 #[derive(Drop)]
@@ -232,36 +216,25 @@ pub fn begin(rt: &(impl Abort + AllocGlobal)) -> Result<Driven, Memory> {
 pub fn drive(
     rt: &(impl Abort + AllocGlobal),
     driven: Driven,
-    script: &[ScriptLine],
+    script: &[Line],
 ) -> Result<Driven, Memory> {
     let mut driven = driven;
-    for line in script {
-        driven = take(rt, driven, line.given)?;
-        said(rt, &driven.action, line.first, line.sent, line.asked);
+    for (given, first, payload, asked) in script {
+        driven = take(rt, driven, *given)?;
+        said(rt, &driven.action, *first, payload, *asked);
     }
     Ok(driven)
 }
 
-/// A session whose client has responded: the account is to be looked at.
+/// A session whose client has responded: the account of `nat` is to be looked at.
 pub fn responded(
     rt: &(impl Abort + AllocGlobal),
     flags: u32,
-    user: &[u8],
     answer: &[u8],
     plugin: &[u8],
 ) -> Result<Driven, Memory> {
-    let response = response(rt.alloc(), flags, user, answer, plugin)?;
+    let response = response(rt.alloc(), flags, b"nat", answer, plugin)?;
     let driven = take(rt, begin(rt)?, Given::Packet(1, response.as_slice()))?;
-    said(rt, &driven.action, 2, b"", Asked::Observe(user));
+    said(rt, &driven.action, 2, b"", Asked::Observe(b"nat"));
     Ok(driven)
-}
-
-/// Drives a session by a script to its last line.
-pub fn play(
-    rt: &(impl Abort + AllocGlobal),
-    driven: Driven,
-    script: &[ScriptLine],
-) -> Result<(), Fail> {
-    drive(rt, driven, script)?;
-    Ok(())
 }

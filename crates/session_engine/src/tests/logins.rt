@@ -1,311 +1,371 @@
-//! Logins by each method, right and wrong.
+//! Logins that no script of a replay reaches: to accounts of caching_sha2_password that have a password, with replies
+//! of locks, and with stale answers.
 
 use super::driving::{
-    Asked, DENY, DENY_BLANK, Given, OPENED, Proof, REFUSED, begin, line, play, responded, said,
+    Asked, DENY, DENY_BLANK, Given, Line, OPENED, Proof, REFUSED, drive, responded,
 };
 use super::made::{
-    ANSWER, CACHING, EXPIRED_FLAGS, FAST, FLAGS, FRESH, FRESH_ANSWER, FRESH_FAST, NATIVE, NONCE,
-    Shown, WRONG,
+    ANSWER, CACHING, EXPIRED_FLAGS, FAST, FLAGS, FRESH, FRESH_FAST, NATIVE, NONCE, Shown,
 };
-use super::texts::{DENIED, DENIED_BLANK, FAST_DONE, FULL, GREETING, OK, TO_CACHING, TO_NATIVE};
+use super::texts::{
+    BLOCKED, BLOCKED_FOREVER, DENIED, DENIED_BLANK, FAST_DONE, FULL, LOCKED, OK, TO_CACHING,
+};
 use account_history::Reply;
-use lg_base::Host;
+use lg_base::Memory;
+use login_lock::{LockRule, LockTime};
+use session_talk::SessionEnd;
 use std::process::Abort;
 use std::test::Fail;
 
-#[test]
-fn the_greeting(rt: HostRuntime) -> Result<(), Fail> {
-    let driven = begin(&rt)?;
-    said(&rt, &driven.action, 0, GREETING, Asked::Read(1));
-    Ok(())
-}
+/// A response's flags, its answer and the method that it names, and what then happens.
+type Login = (u32, &'static [u8], &'static [u8], &'static [Line<'static>]);
 
-#[test]
-fn a_right_native_answer(rt: HostRuntime) -> Result<(), Fail> {
-    let driven = responded(&rt, FLAGS, b"nat", &ANSWER, NATIVE)?;
-    let proof = Proof::Native(NONCE, &ANSWER);
-    play(
-        &rt,
-        driven,
-        &[
-            line(
-                Given::Looked(Shown::Native, 7),
-                2,
-                b"",
-                Asked::Check(7, proof),
-            ),
-            line(Given::Checked, 2, b"", Asked::Settle(7, proof, FLAGS, true)),
-            line(OPENED, 2, OK, Asked::Read(0)),
-        ],
-    )
-}
+const RIGHT_ANSWER: Proof<'static> = Proof::Native(NONCE, &ANSWER);
 
-#[test]
-fn a_wrong_native_answer(rt: HostRuntime) -> Result<(), Fail> {
-    let driven = responded(&rt, FLAGS, b"nat", &WRONG, NATIVE)?;
-    let proof = Proof::Native(NONCE, &WRONG);
-    play(
-        &rt,
-        driven,
-        &[
-            line(
-                Given::Looked(Shown::Native, 7),
-                2,
-                b"",
-                Asked::Check(7, proof),
-            ),
-            line(
-                Given::Checked,
-                2,
-                b"",
-                Asked::Settle(7, proof, FLAGS, false),
-            ),
-            line(DENY, 2, DENIED, REFUSED),
-        ],
-    )
-}
+const FIRST_FAST: Proof<'static> = Proof::Fast(NONCE, FAST);
 
-/// A sandbox is an open session. The client's flags are told to the account store.
-#[test]
-fn an_expired_password_in_a_sandbox(rt: HostRuntime) -> Result<(), Fail> {
-    let driven = responded(&rt, EXPIRED_FLAGS, b"nat", &ANSWER, NATIVE)?;
-    let proof = Proof::Native(NONCE, &ANSWER);
-    let reply = Reply::Sandbox {
-        account: 3,
-        host: Host::Localhost,
-    };
-    play(
-        &rt,
-        driven,
-        &[
-            line(
-                Given::Looked(Shown::Native, 7),
-                2,
-                b"",
-                Asked::Check(7, proof),
-            ),
-            line(
-                Given::Checked,
-                2,
-                b"",
-                Asked::Settle(7, proof, EXPIRED_FLAGS, true),
-            ),
-            line(Given::Settled(reply), 2, OK, Asked::Read(0)),
-        ],
-    )
-}
+const SECOND_FAST: Proof<'static> = Proof::Fast(FRESH, FRESH_FAST);
 
-/// An answer that is empty or one zero byte, where the client names the account's method.
-fn check_blank(
-    rt: &(impl Abort + AllocGlobal),
-    shown: Shown,
-    answer: &[u8],
-    plugin: &[u8],
-    fits: bool,
-) -> Result<(), Fail> {
-    let driven = responded(rt, FLAGS, b"nat", answer, plugin)?;
-    let last = if fits {
-        line(OPENED, 2, OK, Asked::Read(0))
-    } else {
-        line(DENY_BLANK, 2, DENIED_BLANK, REFUSED)
-    };
-    play(
-        rt,
-        driven,
-        &[
-            line(
-                Given::Looked(shown, 7),
-                2,
-                b"",
-                Asked::Check(7, Proof::Empty),
-            ),
-            line(
-                Given::Checked,
-                2,
-                b"",
-                Asked::Settle(7, Proof::Empty, FLAGS, fits),
-            ),
-            last,
-        ],
-    )
-}
+const PASSWORD: Proof<'static> = Proof::Full(b"one");
 
-#[test]
-fn no_password(rt: HostRuntime) -> Result<(), Fail> {
-    for answer in [b"".as_slice(), b"\x00".as_slice()] {
-        check_blank(&rt, Shown::NativeEmpty, answer, NATIVE, true)?;
-        check_blank(&rt, Shown::SaltedEmpty, answer, CACHING, true)?;
-        check_blank(&rt, Shown::Native, answer, NATIVE, false)?;
-        check_blank(&rt, Shown::Known, answer, CACHING, false)?;
-        check_blank(&rt, Shown::Nobody, answer, CACHING, false)?;
-    }
-    Ok(())
-}
+const A_FAST_ANSWER: &[Line<'static>] = &[
+    (
+        Given::Looked(Shown::Known, 7),
+        2,
+        FAST_DONE,
+        Asked::Check(7, FIRST_FAST),
+    ),
+    (
+        Given::Checked,
+        3,
+        b"",
+        Asked::Settle(7, FIRST_FAST, FLAGS, true),
+    ),
+    (OPENED, 3, OK, Asked::Read(0)),
+];
 
-/// A native account, and a client that named the caching method with some answer: it answers to a fresh nonce.
-fn check_switch<'a>(
-    rt: &(impl Abort + AllocGlobal),
-    first: &[u8],
-    second: &'a [u8],
-    fits: bool,
-) -> Result<(), Fail> {
-    let driven = responded(rt, FLAGS, b"nat", first, CACHING)?;
-    let proof = Proof::Native(FRESH, second);
-    let last = if fits {
-        line(OPENED, 4, OK, Asked::Read(0))
-    } else {
-        line(DENY, 4, DENIED, REFUSED)
-    };
-    play(
-        rt,
-        driven,
-        &[
-            line(Given::Looked(Shown::Native, 7), 2, b"", Asked::Draw),
-            line(Given::Drawn(FRESH), 2, TO_NATIVE, Asked::Read(3)),
-            line(Given::Packet(3, second), 4, b"", Asked::Check(7, proof)),
-            line(Given::Checked, 4, b"", Asked::Settle(7, proof, FLAGS, fits)),
-            last,
-        ],
-    )
-}
+const NO_PASSWORD: &[Line<'static>] = &[
+    (
+        Given::Looked(Shown::Known, 7),
+        2,
+        b"",
+        Asked::Check(7, Proof::Empty),
+    ),
+    (
+        Given::Checked,
+        2,
+        b"",
+        Asked::Settle(7, Proof::Empty, FLAGS, false),
+    ),
+    (DENY_BLANK, 2, DENIED_BLANK, REFUSED),
+];
 
-#[test]
-fn a_switch_to_the_native_method(rt: HostRuntime) -> Result<(), Fail> {
-    check_switch(&rt, &FAST, &FRESH_ANSWER, true)?;
-    check_switch(&rt, b"", &FRESH_ANSWER, true)?;
-    // The answer to the first nonce is no answer to the fresh one.
-    check_switch(&rt, &ANSWER, &ANSWER, false)?;
-    check_switch(&rt, &FAST, &FRESH_ANSWER[..19], false)
-}
+const A_SWITCH: &[Line<'static>] = &[
+    (Given::Looked(Shown::Known, 7), 2, b"", Asked::Draw),
+    (Given::Drawn(FRESH), 2, TO_CACHING, Asked::Read(3)),
+    (
+        Given::Packet(3, &FRESH_FAST),
+        4,
+        FAST_DONE,
+        Asked::Check(7, SECOND_FAST),
+    ),
+    (
+        Given::Checked,
+        5,
+        b"",
+        Asked::Settle(7, SECOND_FAST, FLAGS, true),
+    ),
+    (OPENED, 5, OK, Asked::Read(0)),
+];
+
+/// The fast answer to the first nonce fits no digest with the fresh one.
+const A_SWITCH_AND_THE_PASSWORD: &[Line<'static>] = &[
+    (Given::Looked(Shown::Known, 7), 2, b"", Asked::Draw),
+    (Given::Drawn(FRESH), 2, TO_CACHING, Asked::Read(3)),
+    (Given::Packet(3, &FAST), 4, FULL, Asked::Read(5)),
+    (
+        Given::Packet(5, b"one\x00"),
+        6,
+        b"",
+        Asked::Check(7, PASSWORD),
+    ),
+    (
+        Given::Checked,
+        6,
+        b"",
+        Asked::Settle(7, PASSWORD, FLAGS, true),
+    ),
+    (OPENED, 6, OK, Asked::Read(0)),
+];
 
 /// The names of methods are compared byte by byte.
-#[test]
-fn a_switch_to_the_caching_method(rt: HostRuntime) -> Result<(), Fail> {
-    let proof = Proof::Fast(FRESH, FRESH_FAST);
-    for plugin in [NATIVE, b"Caching_sha2_password".as_slice(), b"".as_slice()] {
-        let driven = responded(&rt, FLAGS, b"ann", &FAST, plugin)?;
-        play(
-            &rt,
-            driven,
-            &[
-                line(Given::Looked(Shown::Known, 7), 2, b"", Asked::Draw),
-                line(Given::Drawn(FRESH), 2, TO_CACHING, Asked::Read(3)),
-                line(
-                    Given::Packet(3, &FRESH_FAST),
-                    4,
-                    FAST_DONE,
-                    Asked::Check(7, proof),
-                ),
-                line(Given::Checked, 5, b"", Asked::Settle(7, proof, FLAGS, true)),
-                line(OPENED, 5, OK, Asked::Read(0)),
-            ],
-        )?;
+const BY_A_DIGEST: &[Login] = &[
+    (FLAGS, &FAST, CACHING, A_FAST_ANSWER),
+    (FLAGS, b"", CACHING, NO_PASSWORD),
+    (FLAGS, b"\x00", CACHING, NO_PASSWORD),
+    (FLAGS, &FAST, NATIVE, A_SWITCH),
+    (FLAGS, &FAST, b"Caching_sha2_password", A_SWITCH),
+    (FLAGS, &FAST, b"", A_SWITCH),
+    (FLAGS, &ANSWER, NATIVE, A_SWITCH_AND_THE_PASSWORD),
+];
+
+/// The account is looked at again, and nothing is asked of the client.
+const ONE_STALE_ANSWER: &[Line<'static>] = &[
+    (
+        Given::Looked(Shown::Native, 7),
+        2,
+        b"",
+        Asked::Check(7, RIGHT_ANSWER),
+    ),
+    (
+        Given::Checked,
+        2,
+        b"",
+        Asked::Settle(7, RIGHT_ANSWER, FLAGS, true),
+    ),
+    (Given::Stale, 2, b"", Asked::Renew(b"nat")),
+    (
+        Given::Looked(Shown::Native, 8),
+        2,
+        b"",
+        Asked::Check(8, RIGHT_ANSWER),
+    ),
+    (
+        Given::Checked,
+        2,
+        b"",
+        Asked::Settle(8, RIGHT_ANSWER, FLAGS, true),
+    ),
+    (OPENED, 2, OK, Asked::Read(0)),
+];
+
+const TWO_STALE_ANSWERS: &[Line<'static>] = &[
+    (
+        Given::Looked(Shown::Native, 7),
+        2,
+        b"",
+        Asked::Check(7, RIGHT_ANSWER),
+    ),
+    (
+        Given::Checked,
+        2,
+        b"",
+        Asked::Settle(7, RIGHT_ANSWER, EXPIRED_FLAGS, true),
+    ),
+    (Given::Stale, 2, b"", Asked::Renew(b"nat")),
+    (
+        Given::Looked(Shown::Native, 8),
+        2,
+        b"",
+        Asked::Check(8, RIGHT_ANSWER),
+    ),
+    (
+        Given::Checked,
+        2,
+        b"",
+        Asked::Settle(8, RIGHT_ANSWER, EXPIRED_FLAGS, true),
+    ),
+    (
+        Given::Stale,
+        2,
+        b"",
+        Asked::SettleLocked(b"nat", RIGHT_ANSWER, EXPIRED_FLAGS),
+    ),
+    (OPENED, 2, OK, Asked::Read(0)),
+];
+
+const STALE: &[Login] = &[
+    (FLAGS, &ANSWER, NATIVE, ONE_STALE_ANSWER),
+    (EXPIRED_FLAGS, &ANSWER, NATIVE, TWO_STALE_ANSWERS),
+];
+
+/// Drives a session for each login.
+fn drive_each(rt: &(impl Abort + AllocGlobal), logins: &[Login]) -> Result<(), Memory> {
+    for (flags, answer, plugin, lines) in logins {
+        drive(rt, responded(rt, *flags, answer, plugin)?, lines)?;
     }
     Ok(())
 }
 
 #[test]
-fn a_switch_and_the_password(rt: HostRuntime) -> Result<(), Fail> {
-    let driven = responded(&rt, FLAGS, b"ann", &ANSWER, NATIVE)?;
-    let proof = Proof::Full(b"one");
-    play(
-        &rt,
-        driven,
-        &[
-            line(Given::Looked(Shown::Known, 7), 2, b"", Asked::Draw),
-            line(Given::Drawn(FRESH), 2, TO_CACHING, Asked::Read(3)),
-            // The fast answer to the first nonce fits no digest with the fresh one.
-            line(Given::Packet(3, &FAST), 4, FULL, Asked::Read(5)),
-            line(Given::Packet(5, b"one\x00"), 6, b"", Asked::Check(7, proof)),
-            line(Given::Checked, 6, b"", Asked::Settle(7, proof, FLAGS, true)),
-            line(OPENED, 6, OK, Asked::Read(0)),
-        ],
-    )
+fn logins_by_a_digest(rt: HostRuntime) -> Result<(), Fail> {
+    drive_each(&rt, BY_A_DIGEST)?;
+    Ok(())
 }
 
 #[test]
-fn a_fast_answer(rt: HostRuntime) -> Result<(), Fail> {
-    let driven = responded(&rt, FLAGS, b"ann", &FAST, CACHING)?;
-    let proof = Proof::Fast(NONCE, FAST);
-    play(
-        &rt,
-        driven,
-        &[
-            line(
-                Given::Looked(Shown::Known, 7),
-                2,
-                FAST_DONE,
-                Asked::Check(7, proof),
-            ),
-            line(Given::Checked, 3, b"", Asked::Settle(7, proof, FLAGS, true)),
-            line(OPENED, 3, OK, Asked::Read(0)),
-        ],
-    )
+fn stale_answers(rt: HostRuntime) -> Result<(), Fail> {
+    drive_each(&rt, STALE)?;
+    Ok(())
 }
 
-/// The password is asked for, and a text comes that proves so much.
-fn check_full<'a>(
-    rt: &(impl Abort + AllocGlobal),
-    shown: Shown,
-    answer: &[u8],
-    text: &'a [u8],
-    proof: Proof<'a>,
-    fits: bool,
-) -> Result<(), Fail> {
-    let driven = responded(rt, FLAGS, b"nat", answer, CACHING)?;
-    let last = if fits {
-        line(OPENED, 4, OK, Asked::Read(0))
-    } else {
-        line(DENY, 4, DENIED, REFUSED)
-    };
-    play(
-        rt,
-        driven,
-        &[
-            line(Given::Looked(shown, 7), 2, FULL, Asked::Read(3)),
-            line(Given::Packet(3, text), 4, b"", Asked::Check(7, proof)),
-            line(Given::Checked, 4, b"", Asked::Settle(7, proof, FLAGS, fits)),
-            last,
-        ],
-    )
-}
-
-#[test]
-fn the_password_in_the_clear(rt: HostRuntime) -> Result<(), Fail> {
-    for (text, proof, fits) in [
-        (b"one\x00".as_slice(), Proof::Full(b"one"), true),
-        (b"one".as_slice(), Proof::Full(b"one"), true),
-        (b"one\x00\x00".as_slice(), Proof::Full(b"one\x00"), false),
-        (b"two\x00".as_slice(), Proof::Full(b"two"), false),
-        (b"".as_slice(), Proof::Empty, false),
-        (b"\x00".as_slice(), Proof::Empty, false),
-        (b"\x00\x00".as_slice(), Proof::Full(b"\x00"), false),
-    ] {
-        check_full(&rt, Shown::Salted, &FAST, text, proof, fits)?;
-    }
-    check_full(&rt, Shown::SaltedEmpty, &FAST, b"\x00", Proof::Empty, true)?;
-    check_full(
-        &rt,
-        Shown::Nobody,
-        &FAST,
-        b"x\x00",
-        Proof::Full(b"x"),
-        false,
-    )
-}
+/// What the account is, the answer to the greeting, the text that comes where the password is asked for, what it
+/// proves, and whether that fits.
+type Clear = (Shown, &'static [u8], &'static [u8], Proof<'static>, bool);
 
 /// The fast path takes answers of 32 bytes that fit a digest of the look.
+const IN_THE_CLEAR: &[Clear] = &[
+    (Shown::Salted, &FAST, b"one\x00", PASSWORD, true),
+    (Shown::Salted, &FAST, b"one", PASSWORD, true),
+    (
+        Shown::Salted,
+        &FAST,
+        b"one\x00\x00",
+        Proof::Full(b"one\x00"),
+        false,
+    ),
+    (Shown::Salted, &FAST, b"two\x00", Proof::Full(b"two"), false),
+    (Shown::Salted, &FAST, b"", Proof::Empty, false),
+    (Shown::Salted, &FAST, b"\x00", Proof::Empty, false),
+    (
+        Shown::Salted,
+        &FAST,
+        b"\x00\x00",
+        Proof::Full(b"\x00"),
+        false,
+    ),
+    (Shown::Known, &FRESH_FAST, b"one\x00", PASSWORD, true),
+    (
+        Shown::Known,
+        b"\xb8\x54\x26\xf5\x46\xef\xda\x67\x82\xaf\xdc\xea\x56\xbf\x4e\xb2\
+      \x5a\x42\xba\x17\xb0\xaf\xeb\x65\x3c\xab\x9b\x0a\xe2\x6a\xae",
+        b"one\x00",
+        PASSWORD,
+        true,
+    ),
+    (
+        Shown::Known,
+        b"\x54\x26\xf5\x46\xef\xda\x67\x82\xaf\xdc\xea\x56\xbf\x4e\xb2\
+      \x5a\x42\xba\x17\xb0\xaf\xeb\x65\x3c\xab\x9b\x0a\xe2\x6a\xae\x87",
+        b"one\x00",
+        PASSWORD,
+        true,
+    ),
+    (Shown::Known, b"\x01", b"one\x00", PASSWORD, true),
+];
+
+/// What follows a look where the password is asked for.
+fn clear_lines<'a>(shown: Shown, text: &'a [u8], proof: Proof<'a>, fits: bool) -> [Line<'a>; 4] {
+    let last = if fits {
+        (OPENED, 4, OK, Asked::Read(0))
+    } else {
+        (DENY, 4, DENIED, REFUSED)
+    };
+    [
+        (Given::Looked(shown, 7), 2, FULL, Asked::Read(3)),
+        (Given::Packet(3, text), 4, b"", Asked::Check(7, proof)),
+        (Given::Checked, 4, b"", Asked::Settle(7, proof, FLAGS, fits)),
+        last,
+    ]
+}
+
 #[test]
-fn answers_that_fit_no_digest(rt: HostRuntime) -> Result<(), Fail> {
-    for answer in [&FRESH_FAST[..], &FAST[..31], &FAST[1..], b"\x01".as_slice()] {
-        check_full(
-            &rt,
-            Shown::Known,
-            answer,
-            b"one\x00",
-            Proof::Full(b"one"),
-            true,
-        )?;
+fn passwords_in_the_clear(rt: HostRuntime) -> Result<(), Fail> {
+    for (shown, answer, text, proof, fits) in IN_THE_CLEAR {
+        let driven = responded(&rt, FLAGS, answer, CACHING)?;
+        drive(&rt, driven, &clear_lines(*shown, text, *proof, *fits))?;
+    }
+    Ok(())
+}
+
+/// What follows a first look at an account that then becomes this: the password was given before, and is checked on
+/// what the account has become.
+fn changed_lines(later: Shown) -> [Line<'static>; 7] {
+    [
+        (Given::Looked(Shown::Salted, 7), 2, FULL, Asked::Read(3)),
+        (
+            Given::Packet(3, b"one\x00"),
+            4,
+            b"",
+            Asked::Check(7, PASSWORD),
+        ),
+        (
+            Given::Checked,
+            4,
+            b"",
+            Asked::Settle(7, PASSWORD, FLAGS, true),
+        ),
+        (Given::Stale, 4, b"", Asked::Renew(b"nat")),
+        (Given::Looked(later, 8), 4, b"", Asked::Check(8, PASSWORD)),
+        (
+            Given::Checked,
+            4,
+            b"",
+            Asked::Settle(8, PASSWORD, FLAGS, false),
+        ),
+        (DENY, 4, DENIED, REFUSED),
+    ]
+}
+
+#[test]
+fn accounts_that_change_after_the_password(rt: HostRuntime) -> Result<(), Fail> {
+    for later in [Shown::Native, Shown::SaltedEmpty, Shown::Nobody] {
+        let driven = responded(&rt, FLAGS, &FAST, CACHING)?;
+        drive(&rt, driven, &changed_lines(later))?;
+    }
+    Ok(())
+}
+
+const TWO_DAYS: LockRule = LockRule {
+    attempts: 3,
+    time: LockTime::Days(2),
+};
+
+const NO_END: LockRule = LockRule {
+    attempts: 3,
+    time: LockTime::Unbounded,
+};
+
+/// Replies of locks, and the number and the payload of the error of each.
+const REFUSALS: &[(Reply, u16, &[u8])] = &[
+    (Reply::Locked, 3118, LOCKED),
+    (
+        Reply::Blocked {
+            rule: TWO_DAYS,
+            left: 1,
+        },
+        3955,
+        BLOCKED,
+    ),
+    (
+        Reply::Blocked {
+            rule: NO_END,
+            left: 0,
+        },
+        3955,
+        BLOCKED_FOREVER,
+    ),
+];
+
+/// What follows a first look where the attempt is refused so.
+fn refused_lines(reply: Reply, number: u16, error: &[u8]) -> [Line; 3] {
+    [
+        (
+            Given::Looked(Shown::Native, 7),
+            2,
+            b"",
+            Asked::Check(7, RIGHT_ANSWER),
+        ),
+        (
+            Given::Checked,
+            2,
+            b"",
+            Asked::Settle(7, RIGHT_ANSWER, FLAGS, true),
+        ),
+        (
+            Given::Settled(reply),
+            2,
+            error,
+            Asked::Ended(SessionEnd::Refused { number }),
+        ),
+    ]
+}
+
+#[test]
+fn each_refusal_names_its_rule(rt: HostRuntime) -> Result<(), Fail> {
+    for (reply, number, error) in REFUSALS {
+        let driven = responded(&rt, FLAGS, &ANSWER, NATIVE)?;
+        drive(&rt, driven, &refused_lines(*reply, *number, error))?;
     }
     Ok(())
 }

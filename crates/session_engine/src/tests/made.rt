@@ -24,14 +24,6 @@ const HASH: [u8; 20] =
 pub const ANSWER: [u8; 20] =
     *b"\xb9\xa6\x96\x4d\x04\x9b\x4f\x3f\x0f\x27\x78\xbd\x58\x19\x00\x1f\x57\xa4\x2d\xd2";
 
-/// The same, with another first byte.
-pub const WRONG: [u8; 20] =
-    *b"\xb8\xa6\x96\x4d\x04\x9b\x4f\x3f\x0f\x27\x78\xbd\x58\x19\x00\x1f\x57\xa4\x2d\xd2";
-
-/// The native answer of `password` to the fresh nonce.
-pub const FRESH_ANSWER: [u8; 20] =
-    *b"\x06\x63\x4c\x71\x30\x25\x7c\xa6\xcb\xaf\x8e\x5c\x1c\xd4\x35\x04\xf7\x6e\x74\x1c";
-
 /// SHA256(SHA256(password)) of `one`.
 const DIGEST: [u8; 32] = *b"\xfe\x8d\x7a\x87\x3d\xc4\x89\x61\xa6\xaf\x33\x4c\x99\x6b\x2c\xb3\
       \xce\x37\x14\x9d\x5c\xe9\xc9\x25\x39\x52\xa5\x4c\x6a\x92\xc1\xad";
@@ -58,8 +50,6 @@ pub enum Shown {
     Nobody,
     /// Of the native method, with the password `password`.
     Native,
-    /// Of the native method, with the empty password.
-    NativeEmpty,
     /// Of the caching method, with the password `one`.
     Salted,
     /// The same, and the digest of its password is known.
@@ -72,7 +62,7 @@ pub enum Shown {
 
 fn method_of(shown: Shown) -> Method {
     match shown {
-        Shown::Native | Shown::NativeEmpty => Method::Native,
+        Shown::Native => Method::Native,
         _ => Method::CachingSha2,
     }
 }
