@@ -1,348 +1,134 @@
-//! The root account's record, a record with every field, each field at both ends of its range and outside
-//! it, and the calls of the keeper in memory.
+//! The calls of the keeper in memory. Records stand in record_probe's table.
 
-use crate::{MemoryKeeper, RecordFault, fits_record, read_record, write_record};
-use lg_base::{Bytes, Items, Out};
-use lg_outside::{KeepFault, Keeper, Row};
+use crate::MemoryKeeper;
+use lg_base::{Items, Memory};
+use lg_outside::{KeepFault, Keeper};
 use std::alloc::Global;
 use std::process::Abort;
 use std::test::Fail;
 
-/// The record of the account that a new store begins with: user, host, method and privileges alone differ
-/// from 00.
-const ROOT: [u8; 32] = [
-    0x01, 0x04, 0x72, 0x6f, 0x6f, 0x74, 0x00, 0x01, 0x00, 0x00, 0x00, 0x00, 0x00, 0x00, 0x00, 0x00,
-    0x00, 0x00, 0x00, 0x00, 0x00, 0x00, 0x00, 0x00, 0x00, 0x00, 0x00, 0x00, 0x00, 0x03, 0x00, 0x00,
-];
+/// What a keeper is asked.
+#[derive(Clone, Copy)]
+enum Call {
+    Attach,
+    Load,
+    Put(u64, &'static [u8]),
+    Remove(u64),
+    /// The next call is added to those that fail.
+    FailNext,
+}
 
-/// The native method's text of the password `password`, with the byte before it.
-const NATIVE: &[u8] = b"\x01*2470C0C06DEE42FD1618BB99005ADCA2EC9D1E19";
-
-/// A text of the caching method, with the byte before it.
-const SHA2: &[u8] = b"\x02$A$005$abcdefghij./89ABCXYZ9GIw6meBOQ1frJy52VltqMrrPrtoVnwO1h7XZjEZhBB";
-
-/// What becomes of bytes that are read.
+/// What a call is answered.
 #[derive(Clone, Copy, Debug, PartialEq, Eq)]
-enum Outcome {
-    /// They are an account's record, and written of it again.
-    Same,
-    /// They are an account's record, and others are written of it.
-    Other,
-    Bad,
+enum Answer {
+    Done,
+    Failed,
     NoMemory,
 }
 
-fn read_again(alloc: Global, key: u64, bytes: &[u8]) -> Outcome {
-    match read_record(alloc, key, bytes) {
-        Ok(account) => {
-            let mut out = Out::new(alloc);
-            if !fits_record(&account) {
-                return Outcome::Other;
-            }
-            if write_record(&account, &mut out).is_err() {
-                return Outcome::NoMemory;
-            }
-            if out.as_slice() == bytes {
-                Outcome::Same
-            } else {
-                Outcome::Other
-            }
+fn answer_of<T: Drop>(answer: Result<T, KeepFault>) -> Answer {
+    match answer {
+        Ok(_) => Answer::Done,
+        Err(KeepFault::Failed) => Answer::Failed,
+        Err(KeepFault::Memory) => Answer::NoMemory,
+    }
+}
+
+fn ask(keeper: &mut MemoryKeeper, call: Call) -> Answer {
+    match call {
+        Call::Attach => answer_of(keeper.attach("here")),
+        Call::Load => answer_of(keeper.load()),
+        Call::Put(key, bytes) => answer_of(keeper.put(key, bytes)),
+        Call::Remove(key) => answer_of(keeper.remove(key)),
+        Call::FailNext => match keeper.fail_next() {
+            Ok(()) => Answer::Done,
+            Err(_) => Answer::NoMemory,
+        },
+    }
+}
+
+/// The number of the first call, from 0, that isn't answered so.
+fn first_other(keeper: &mut MemoryKeeper, calls: &[(Call, Answer)]) -> Option<usize> {
+    for (i, (call, wanted)) in calls.iter().enumerate() {
+        if ask(keeper, *call) != *wanted {
+            return Some(i);
         }
-        Err(RecordFault::Bad) => Outcome::Bad,
-        Err(RecordFault::Memory) => Outcome::NoMemory,
     }
+    None
 }
 
-/// The root account's record with other bytes from `from` to `to`.
-fn changed(alloc: Global, from: usize, to: usize, parts: &[&[u8]]) -> Result<Out, Fail> {
-    let mut out = Out::new(alloc);
-    out.bytes(ROOT.get(..from).unwrap_or(&[]))?;
-    for part in parts {
-        out.bytes(part)?;
+/// Whether these rows are kept.
+fn keeps(keeper: &MemoryKeeper, wanted: &[(u64, &[u8])]) -> bool {
+    let rows = keeper.rows();
+    if rows.len() != wanted.len() {
+        return false;
     }
-    out.bytes(ROOT.get(to..).unwrap_or(&[]))?;
-    Ok(out)
-}
-
-/// What becomes of the root account's record with other bytes from `from` to `to`.
-fn check(
-    rt: &(impl Abort + AllocGlobal),
-    from: usize,
-    to: usize,
-    parts: &[&[u8]],
-    wanted: Outcome,
-) -> Result<(), Fail> {
-    let bytes = changed(rt.alloc(), from, to, parts)?;
-    assert_eq!(rt;
-        read_again(rt.alloc(), 1, bytes.as_slice()),
-        wanted,
-        "{from} to {to}"
-    );
-    Ok(())
-}
-
-#[test]
-fn the_root_record(rt: HostRuntime) -> Result<(), Fail> {
-    assert_eq!(rt; read_again(rt.alloc(), 1, &ROOT), Outcome::Same);
-    assert_eq!(rt; read_again(rt.alloc(), 1 << 62, &ROOT), Outcome::Same);
-    assert_eq!(rt; read_again(rt.alloc(), 0, &ROOT), Outcome::Bad);
-    assert_eq!(rt; read_again(rt.alloc(), (1 << 62) + 1, &ROOT), Outcome::Bad);
-    for end in 0..32 {
-        assert_eq!(rt;
-            read_again(rt.alloc(), 1, &ROOT[..end]),
-            Outcome::Bad,
-            "cut at {end}"
-        );
-    }
-    check(&rt, 32, 32, &[&[0]], Outcome::Bad)
-}
-
-#[test]
-fn the_account_of_the_root_record(rt: HostRuntime) -> Result<(), Fail> {
-    match read_record(rt.alloc(), 7, &ROOT) {
-        Ok(account) => {
-            assert_eq!(rt; account.id, 7);
-            assert_eq!(rt; account.name.user.as_slice(), b"root".as_slice());
-            assert_eq!(rt; account.primary_id, 0);
-            assert!(rt; account.create_user);
-            assert!(rt; account.password_admin);
-        }
-        Err(_) => assert!(rt; false),
-    }
-    Ok(())
-}
-
-#[test]
-fn names_and_methods(rt: HostRuntime) -> Result<(), Fail> {
-    check(&rt, 0, 1, &[&[0]], Outcome::Bad)?;
-    check(&rt, 0, 1, &[&[2]], Outcome::Bad)?;
-    check(&rt, 1, 6, &[&[0]], Outcome::Bad)?;
-    check(&rt, 1, 6, &[b"\x01x"], Outcome::Same)?;
-    check(&rt, 1, 6, &[b"\x20", &[0xff; 32]], Outcome::Same)?;
-    check(&rt, 1, 6, &[b"\x21", &[0xff; 33]], Outcome::Bad)?;
-    check(&rt, 1, 6, &[b"\x02a\x00"], Outcome::Bad)?;
-    check(&rt, 6, 7, &[&[1]], Outcome::Same)?;
-    check(&rt, 6, 7, &[&[2]], Outcome::Bad)?;
-    check(&rt, 7, 8, &[&[0]], Outcome::Same)?;
-    check(&rt, 7, 8, &[&[2]], Outcome::Bad)
-}
-
-#[test]
-fn passwords(rt: HostRuntime) -> Result<(), Fail> {
-    check(&rt, 7, 9, &[&[0], NATIVE], Outcome::Same)?;
-    check(&rt, 7, 9, &[&[1], NATIVE], Outcome::Bad)?;
-    check(&rt, 7, 9, &[&[1], SHA2], Outcome::Same)?;
-    check(&rt, 7, 9, &[&[0], SHA2], Outcome::Bad)?;
-    check(&rt, 8, 9, &[&[3]], Outcome::Bad)?;
-    check(&rt, 8, 9, &[b"\x01*", &[b'a'; 40]], Outcome::Bad)?;
-    // A secondary of the account's method, of the other one, an empty one, and one beside an empty primary.
-    check(&rt, 7, 10, &[&[1], SHA2, &[1], SHA2], Outcome::Same)?;
-    check(&rt, 7, 10, &[&[1], SHA2, &[1], NATIVE], Outcome::Bad)?;
-    check(&rt, 7, 10, &[&[1], SHA2, &[1], &[0]], Outcome::Bad)?;
-    check(&rt, 7, 10, &[&[1], SHA2, &[2]], Outcome::Bad)?;
-    check(&rt, 7, 10, &[&[1], &[0], &[1], SHA2], Outcome::Bad)
-}
-
-#[test]
-fn labels(rt: HostRuntime) -> Result<(), Fail> {
-    check(&rt, 10, 11, &[&[1, 1, 0]], Outcome::Same)?;
-    check(&rt, 10, 11, &[&[1, 0]], Outcome::Bad)?;
-    check(&rt, 10, 11, &[&[1, 64], &[b'x'; 64]], Outcome::Same)?;
-    check(&rt, 10, 11, &[&[1, 65], &[b'x'; 65]], Outcome::Bad)?;
-    check(&rt, 10, 11, &[&[2, 1, 0, 1, 0]], Outcome::Same)?;
-    check(&rt, 10, 11, &[&[3, 1, 0, 1, 0, 1, 0]], Outcome::Bad)
-}
-
-#[test]
-fn terms(rt: HostRuntime) -> Result<(), Fail> {
-    check(&rt, 11, 19, &[&[0xff; 8]], Outcome::Same)?;
-    check(&rt, 19, 20, &[&[1]], Outcome::Same)?;
-    check(&rt, 19, 20, &[&[2]], Outcome::Bad)?;
-    check(&rt, 20, 21, &[&[1]], Outcome::Same)?;
-    check(&rt, 20, 21, &[&[2, 0, 0]], Outcome::Bad)?;
-    check(&rt, 20, 21, &[&[2, 1, 0]], Outcome::Same)?;
-    check(&rt, 20, 21, &[&[2, 0xff, 0xff]], Outcome::Same)?;
-    check(&rt, 20, 21, &[&[3]], Outcome::Bad)?;
-    check(&rt, 21, 22, &[&[1, 0, 0]], Outcome::Same)?;
-    check(&rt, 21, 22, &[&[1, 0, 1]], Outcome::Same)?;
-    check(&rt, 21, 22, &[&[1, 1, 1]], Outcome::Bad)?;
-    check(&rt, 21, 22, &[&[2]], Outcome::Bad)?;
-    check(&rt, 22, 23, &[&[1, 0, 0]], Outcome::Same)?;
-    check(&rt, 22, 23, &[&[1, 0xff, 0xff]], Outcome::Same)?;
-    check(&rt, 22, 23, &[&[2, 0, 0]], Outcome::Bad)
-}
-
-#[test]
-fn locks_and_privileges(rt: HostRuntime) -> Result<(), Fail> {
-    check(&rt, 23, 25, &[&[0xff, 0x7f]], Outcome::Same)?;
-    check(&rt, 23, 25, &[&[0x00, 0x80]], Outcome::Bad)?;
-    check(&rt, 25, 28, &[&[0, 0xff, 0x7f]], Outcome::Same)?;
-    check(&rt, 25, 28, &[&[0, 0x00, 0x80]], Outcome::Bad)?;
-    check(&rt, 25, 28, &[&[1]], Outcome::Same)?;
-    check(&rt, 25, 28, &[&[2]], Outcome::Bad)?;
-    check(&rt, 28, 29, &[&[1]], Outcome::Same)?;
-    check(&rt, 28, 29, &[&[2]], Outcome::Bad)?;
-    check(&rt, 29, 30, &[&[0]], Outcome::Same)?;
-    check(&rt, 29, 30, &[&[1]], Outcome::Same)?;
-    check(&rt, 29, 30, &[&[2]], Outcome::Same)?;
-    check(&rt, 29, 30, &[&[4]], Outcome::Bad)?;
-    check(&rt, 29, 30, &[&[0x83]], Outcome::Bad)
-}
-
-#[test]
-fn past_passwords(rt: HostRuntime) -> Result<(), Fail> {
-    let first = [1, 0, 0, 0, 0, 0, 0, 0];
-    let second = [0, 1, 0, 0, 0, 0, 0, 0];
-    check(&rt, 30, 32, &[&[1, 0], &first, NATIVE], Outcome::Same)?;
-    check(&rt, 30, 32, &[&[1, 0], &first, &[0]], Outcome::Bad)?;
-    check(
-        &rt,
-        30,
-        32,
-        &[&[2, 0], &second, NATIVE, &first, SHA2],
-        Outcome::Same,
-    )?;
-    check(
-        &rt,
-        30,
-        32,
-        &[&[2, 0], &first, NATIVE, &first, SHA2],
-        Outcome::Same,
-    )?;
-    check(
-        &rt,
-        30,
-        32,
-        &[&[2, 0], &first, NATIVE, &second, SHA2],
-        Outcome::Bad,
-    )
-}
-
-/// A record with a secondary, two labels and so many past passwords, the count of which is `count`.
-fn full(alloc: Global, count: [u8; 2], past: usize) -> Result<Out, Fail> {
-    let mut out = changed(alloc, 7, 11, &[&[1], SHA2, &[1], SHA2, b"\x02\x01a\x02bb"])?;
-    out.truncate(out.as_slice().len().saturating_sub(2));
-    out.bytes(&count)?;
-    for _ in 0..past {
-        out.bytes(&[9, 0, 0, 0, 0, 0, 0, 0])?;
-        out.bytes(NATIVE)?;
-    }
-    Ok(out)
-}
-
-#[test]
-fn the_longest_past(rt: HostRuntime) -> Result<(), Fail> {
-    let most = full(rt.alloc(), [0, 1], 256)?;
-    assert_eq!(rt; read_again(rt.alloc(), 1, most.as_slice()), Outcome::Same);
-    let over = full(rt.alloc(), [1, 1], 257)?;
-    assert_eq!(rt; read_again(rt.alloc(), 1, over.as_slice()), Outcome::Bad);
-    Ok(())
-}
-
-/// Whether no cut of the bytes is a record.
-fn each_cut_is_bad(alloc: Global, bytes: &[u8]) -> bool {
-    for end in 0..bytes.len() {
-        if read_again(alloc, 1, &bytes[..end]) != Outcome::Bad {
+    for (row, (key, bytes)) in rows.iter().zip(wanted) {
+        if row.key != *key || row.bytes.as_slice() != *bytes {
             return false;
         }
     }
     true
 }
 
-#[test]
-fn each_cut_of_a_record_with_every_field(rt: HostRuntime) -> Result<(), Fail> {
-    let mut record = full(rt.alloc(), [2, 0], 2)?;
-    assert_eq!(rt; read_again(rt.alloc(), 1, record.as_slice()), Outcome::Same);
-    assert!(rt; each_cut_is_bad(rt.alloc(), record.as_slice()));
-    record.bytes(&[0])?;
-    assert_eq!(rt; read_again(rt.alloc(), 1, record.as_slice()), Outcome::Bad);
-    Ok(())
+/// The keys of the rows that are loaded, as the digits of a number.
+fn loaded(keeper: &mut MemoryKeeper) -> u64 {
+    let mut keys = 0_u64;
+    if let Ok(rows) = keeper.load() {
+        for row in rows.as_slice() {
+            keys = keys.saturating_mul(10).saturating_add(row.key);
+        }
+    }
+    keys
 }
 
-#[test]
-fn the_ids_of_credentials_are_not_kept(rt: HostRuntime) -> Result<(), Fail> {
-    let record = full(rt.alloc(), [2, 0], 2)?;
-    let Ok(mut account) = read_record(rt.alloc(), 5, record.as_slice()) else {
-        return Ok(assert!(rt; false));
-    };
-    account.id = 8;
-    account.primary_id = 3;
-    account.secondary = Some((account.primary, 4));
-    let mut out = Out::new(rt.alloc());
-    assert!(rt; fits_record(&account));
-    write_record(&account, &mut out)?;
-    assert_eq!(rt; out.as_slice(), record.as_slice());
-    let Ok(kept) = read_record(rt.alloc(), 6, out.as_slice()) else {
-        return Ok(assert!(rt; false));
-    };
-    assert_eq!(rt; kept.id, 6);
-    assert_eq!(rt; kept.primary, account.primary);
-    assert_eq!(rt; kept.primary_id, 0);
-    assert_eq!(rt; kept.secondary, Some((account.primary, 0)));
-    assert!(rt; kept.labels.as_slice() == account.labels.as_slice());
-    assert!(rt; kept.past.as_slice() == account.past.as_slice());
-    Ok(())
+/// A keeper without rows, whose calls with these numbers fail.
+fn keeper(alloc: Global, failing: &[u64]) -> Result<MemoryKeeper, Memory> {
+    let failing = Items::from_vec(Vec::from_slice(alloc, failing)?);
+    Ok(MemoryKeeper::new(Items::new(alloc), failing))
 }
 
-// ## The keeper
+const CALLS: [(Call, Answer); 7] = [
+    (Call::Attach, Answer::Done),
+    (Call::Put(5, b"five"), Answer::Done),
+    (Call::Put(2, b"two"), Answer::Done),
+    (Call::Put(5, b"fifth"), Answer::Done),
+    (Call::Put(9, b"nine"), Answer::Done),
+    (Call::Remove(9), Answer::Done),
+    (Call::Remove(3), Answer::Done),
+];
 
 #[test]
 fn rows_are_put_and_removed(rt: HostRuntime) -> Result<(), Fail> {
-    let mut keeper = MemoryKeeper::new(Items::new(rt.alloc()), Items::new(rt.alloc()));
-    assert_eq!(rt; keeper.attach("here"), Ok(()));
-    assert_eq!(rt; keeper.put(5, b"five"), Ok(()));
-    assert_eq!(rt; keeper.put(2, b"two"), Ok(()));
-    assert_eq!(rt; keeper.put(5, b"fifth"), Ok(()));
-    assert_eq!(rt; keeper.put(9, b"nine"), Ok(()));
-    assert_eq!(rt; keeper.remove(9), Ok(()));
-    assert_eq!(rt; keeper.remove(3), Ok(()));
-    let wanted = [
-        Row {
-            key: 2,
-            bytes: Bytes::copy(rt.alloc(), b"two")?,
-        },
-        Row {
-            key: 5,
-            bytes: Bytes::copy(rt.alloc(), b"fifth")?,
-        },
-    ];
-    assert!(rt; keeper.rows() == wanted.as_slice());
-    match keeper.load() {
-        Ok(rows) => assert!(rt; rows.as_slice() == wanted.as_slice()),
-        Err(_) => assert!(rt; false),
-    }
+    let mut keeper = keeper(rt.alloc(), &[])?;
+    assert_eq!(rt; first_other(&mut keeper, &CALLS), None);
+    assert!(rt; keeps(&keeper, &[(2, b"two"), (5, b"fifth")]));
+    assert_eq!(rt; loaded(&mut keeper), 25);
     assert_eq!(rt; keeper.faults(), 0);
     Ok(())
 }
 
-#[test]
-fn listed_calls_fail(rt: HostRuntime) -> Result<(), Fail> {
-    let mut failing = Items::new(rt.alloc());
-    failing.push(2)?;
-    let mut keeper = MemoryKeeper::new(Items::new(rt.alloc()), failing);
-    assert_eq!(rt; keeper.put(1, b"one"), Ok(()));
-    assert_eq!(rt; keeper.put(2, b"two"), Err(KeepFault::Failed));
-    assert_eq!(rt; keeper.faults(), 1);
-    assert_eq!(rt; keeper.remove(4), Ok(()));
-    assert_eq!(rt; keeper.fail_next().is_ok(), true);
-    assert_eq!(rt; keeper.remove(1), Err(KeepFault::Failed));
-    assert_eq!(rt; keeper.faults(), 2);
-    assert_eq!(rt; keeper.rows().len(), 1);
-    Ok(())
-}
+const FAILING_CALLS: [(Call, Answer); 6] = [
+    (Call::Attach, Answer::Failed),
+    (Call::Load, Answer::Failed),
+    (Call::Put(1, b"one"), Answer::Done),
+    (Call::Put(2, b"two"), Answer::Failed),
+    (Call::Remove(4), Answer::Done),
+    (Call::Remove(1), Answer::Failed),
+];
+
+const FAILING_NEXT: [(Call, Answer); 2] = [
+    (Call::FailNext, Answer::Done),
+    (Call::Remove(1), Answer::Failed),
+];
 
 #[test]
 fn each_call_can_fail(rt: HostRuntime) -> Result<(), Fail> {
-    let mut failing = Items::new(rt.alloc());
-    failing.push(1)?;
-    failing.push(2)?;
-    failing.push(4)?;
-    let mut keeper = MemoryKeeper::new(Items::new(rt.alloc()), failing);
-    assert_eq!(rt; keeper.attach("here"), Err(KeepFault::Failed));
-    assert!(rt; matches!(&keeper.load(), Err(KeepFault::Failed)));
-    assert_eq!(rt; keeper.put(1, b"one"), Ok(()));
-    assert_eq!(rt; keeper.remove(1), Err(KeepFault::Failed));
-    assert_eq!(rt; keeper.faults(), 3);
-    assert_eq!(rt; keeper.rows().len(), 1);
+    let mut keeper = keeper(rt.alloc(), &[1, 2, 4, 6])?;
+    assert_eq!(rt; first_other(&mut keeper, &FAILING_CALLS), None);
+    assert_eq!(rt; keeper.faults(), 4);
+    assert_eq!(rt; first_other(&mut keeper, &FAILING_NEXT), None);
+    assert_eq!(rt; keeper.faults(), 5);
+    assert!(rt; keeps(&keeper, &[(1, b"one")]));
     Ok(())
 }

@@ -1,10 +1,14 @@
 #!/usr/bin/env python3
-"""Prints src/tests/places.rt: sample payloads of each message, and where a reader must stop in them.
+"""Prints what packet_probe is asked (`places.py stdin`) and what it has to answer (`places.py stdout`): payloads
+of each message, each cut, and each with one byte made 00 or ff; the fields of what a payload spells and the
+payload that is written of them, or the place at which a reader must stop.
 
-The places come from a brute search that shares nothing with the crate: a recogniser of whole payloads that
-knows no places, and for each front of a payload the question whether some completion is recognised. The
-completions are a run of zero bytes and then an end of a sample payload.
+It shares nothing with the crate: a recogniser of whole payloads that knows no places gives the fields, a writer
+of each message lays them out again, and for the places each front of a payload is tried with a list of ends, a
+run of zero bytes and then an end of a sample payload.
 """
+
+import sys
 
 def lenenc(b, i):
     if i >= len(b): return None
@@ -135,25 +139,58 @@ ALL_FLAGS = H('8da6ff11' '00000001' 'ff' + FILLER + '726f6f7400' '0100' '7465737
               '0c5f636c69656e745f6e616d65' '086c69626d7973716c')
 LONG_FORMS = H('00823800' '00000001' '21' + FILLER + '6e00' 'fc0200' '0102' '7000' 'fd040000' '01610162' '9999')
 SAMPLES = {
-    'Greeting': (greeting, [GREETING, LONG_NONCE]),
-    'Response': (response, [PLAIN, ALL_FLAGS, LONG_FORMS]),
-    'Switch': (named(0xfe), [H('fe6d790030313200'), H('fe6d79')]),
-    'More': (more, [H('010400')]),
-    'NextFactor': (named(0x02), [H('026d7973716c00'), H('0261')]),
-    'Ok': (ok, [H('00fc05000002000000'), H('00fd010203fe0102030405060708020001006869')]),
-    'Err': (err, [H('ff1504233238303030') + b'no', H('ff15046e6f')]),
-    'Eof': (eof, [H('fe00000200')]),
-    'ChangeUser': (change, [H('11726f6f7400' '02' 'a1a2' '646200' '2d00')]),
-    'Command': (command, [H('11726f6f74000000'), H('0373656c'), H('0e'), H('01'), H('1f00'), H('1b00')]),
+    'greeting': (greeting, [GREETING, LONG_NONCE]),
+    'response': (response, [PLAIN, ALL_FLAGS, LONG_FORMS]),
+    'switch': (named(0xfe), [H('fe6d790030313200'), H('fe6d79')]),
+    'more': (more, [H('010400')]),
+    'next': (named(0x02), [H('026d7973716c00'), H('0261'), H('026d7973716c5f636c6561725f70617373776f7264')]),
+    'ok': (ok, [H('00fc05000002000000'), H('00fd010203fe0102030405060708020001006869')]),
+    'err': (err, [H('ff1504233238303030') + b'no', H('ff15046e6f'), H('ff1504')]),
+    'eof': (eof, [H('fe00000200')]),
+    'change': (change, [H('11726f6f7400' '02' 'a1a2' '646200' '2d00'), H('11726f6f74000000')]),
+    'command': (command, [H('11726f6f74000000'), H('0373656c6563742031'), H('0e'), H('01'), H('1f00'), H('1b00'),
+                          H('1b01')]),
 }
-READS = 255
+# Responses that real clients send, taken from a Unix socket on which a server had greeted them with the method
+# caching_sha2_password or mysql_native_password; the last two lack flags, and no reader takes them.
+CLIENTS = {
+    'the command line of MariaDB': H(
+        '84a6ff20000010002100000000000000000000000000000000000000000000006e61740020a9496e88462d05a27ca513'
+        '91f001e6e4215fac994deb5d27c3a7767c912c6ab863616368696e675f736861325f70617373776f72640068035f6f73'
+        '054c696e75780c5f636c69656e745f6e616d650a6c69626d617269616462045f7069640532333538300f5f636c69656e'
+        '745f76657273696f6e06332e332e3230095f706c6174666f726d067838365f36340c70726f6772616d5f6e616d65056d'
+        '7973716c'),
+    'PyMySQL': H(
+        '05a23a00ffffff002d00000000000000000000000000000000000000000000006e61740020359071f7530ace4afbe8d3'
+        '7bd236056c0212f8b6df74ef3fc8a4bd3f28dfa4f263616368696e675f736861325f70617373776f726400360c5f636c'
+        '69656e745f6e616d650770796d7973716c045f7069640532333539330f5f636c69656e745f76657273696f6e05312e30'
+        '2e32'),
+    "PHP's mysqlnd": H(
+        '85a21a00000000c0ff00000000000000000000000000000000000000000000006e617400205e0c2ef01063cc64753a69'
+        'fb00923f8751ca7fcbe9c1b74cff558d89b749b40f63616368696e675f736861325f70617373776f7264002c0c5f636c'
+        '69656e745f6e616d65076d7973716c6e640c5f7365727665725f686f7374096c6f63616c686f7374'),
+    "Go's go-sql-driver": H(
+        '81a20a00000000002d00000000000000000000000000000000000000000000006e617400205ee8fcbcb2c28047a7c3b0'
+        '50372f564cfef2285e1b3fe2c41aeca71d4bc1964a63616368696e675f736861325f70617373776f726400'),
+    "MariaDB's Connector/J": H(
+        '82a3be0000000040e000000000000000000000000000000000000000000000006e61740014fde73f8efd378502c6cbdb'
+        'acc2e14e00302dffda6d7973716c5f6e61746976655f70617373776f726400970c5f636c69656e745f6e616d65134d61'
+        '726961444220436f6e6e6563746f722f4a0f5f636c69656e745f76657273696f6e05322e372e360c5f7365727665725f'
+        '686f7374096c6f63616c686f7374035f6f73054c696e7578045f706964053233363834075f74687265616401310c5f6a'
+        '6176615f76656e646f720644656269616e0d5f6a6176615f76657273696f6e0731372e302e3135'),
+    "Go's mymysql": H(
+        '00a20300ffffff00ff00000000000000000000000000000000000000000000006e61740014b56dde91dcb6bfb366a90e'
+        '3b66775764a6cb6899'),
+    'the old check of HAProxy': H(
+        '00800000016e61740000'),
+}
 
 
 def place(kind, payload):
-    """The length of the longest front that goes on to a spelling; READS where the whole is one."""
+    """The length of the longest front that goes on to a spelling; None where the whole is one."""
     recognise, samples = SAMPLES[kind]
     if recognise(payload) is not None:
-        return READS
+        return None
     ends = sorted({s[k:] for s in samples for k in range(len(s) + 1)}, key=len)
     for n in range(len(payload), -1, -1):
         for zeros in list(range(45)) + [100, 140, 200, 255, 260]:
@@ -161,35 +198,136 @@ def place(kind, payload):
             if any(recognise(front + end) is not None for end in ends):
                 return n
         # A length in two or three bytes.
-        if kind == 'Response' and recognise(payload[:n] + bytes(17000000)) is not None:
+        if kind == 'response' and recognise(payload[:n] + bytes(17000000)) is not None:
             return n
     raise SystemExit('no front of %s goes on' % payload.hex())
 
 
-def table(name, values):
-    lines, line = [], '   '
-    for v in values:
-        word = ' %d,' % v
-        if len(line) + len(word) > 100:
-            lines.append(line)
-            line = '   '
-        line += word
-    lines.append(line)
-    return 'pub static %s: [u8; %d] = [\n%s\n];\n' % (name, len(values), '\n'.join(lines))
+# ## The fields as text, and the message laid out again
+
+
+def number(b):
+    return int.from_bytes(b, 'little')
+
+
+def shortest(n):
+    """A length-encoded integer."""
+    if n < 251:
+        return bytes([n])
+    size, first = (2, 252) if n < 1 << 16 else (3, 253) if n < 1 << 24 else (8, 254)
+    return bytes([first]) + n.to_bytes(size, 'little')
+
+
+def greeting_out(value):
+    version, ident, nonce, flags, charset, status, plugin = value
+    low = flags.to_bytes(4, 'little')
+    text = [('version', version), ('id', number(ident)), ('nonce', nonce), ('flags', flags), ('charset', charset),
+            ('status', number(status)), ('plugin', plugin)]
+    return text, (b'\x0a' + version + b'\0' + ident + nonce[:8] + b'\0' + low[:2] + bytes([charset]) + status
+                  + low[2:] + b'\x15' + bytes(10) + nonce[8:] + b'\0' + plugin + b'\0')
+
+
+def response_out(value):
+    flags, most, charset, user, auth, database, plugin, attributes, rest = value
+    text = [('flags', flags), ('max_packet', number(most)), ('charset', charset), ('user', user), ('auth', auth),
+            ('database', database), ('plugin', plugin), ('attributes', attributes), ('rest', rest)]
+    length = shortest(len(auth)) if flags & 0x200000 else bytes([len(auth)])
+    out = flags.to_bytes(4, 'little') + most + bytes([charset]) + bytes(23) + user + b'\0' + length + auth
+    if database is not None:
+        out += database + b'\0'
+    out += plugin + b'\0'
+    if attributes is not None:
+        out += shortest(len(attributes)) + attributes
+    return text, out + rest
+
+
+def named_out(first):
+    return lambda value: ([('plugin', value[0]), ('body', value[1])], bytes([first]) + value[0] + b'\0' + value[1])
+
+
+def more_out(value):
+    return [('body', value[0])], b'\x01' + value[0]
+
+
+def ok_out(value):
+    affected, last_id, status, warnings, info = value
+    text = [('affected', affected), ('last_id', last_id), ('status', number(status)), ('warnings', number(warnings)),
+            ('info', info)]
+    return text, b'\0' + shortest(affected) + shortest(last_id) + status + warnings + info
+
+
+def err_out(value):
+    code, state, text = value
+    return [('number', number(code)), ('state', state), ('text', text)], b'\xff' + code + b'#' + state + text
+
+
+def eof_out(value):
+    warnings, status = value
+    return [('warnings', number(warnings)), ('status', number(status))], b'\xfe' + warnings + status
+
+
+def change_out(value):
+    user, auth, database, rest = value
+    text = [('user', user), ('auth', auth), ('database', database), ('rest', rest)]
+    return text, b'\x11' + user + b'\0' + bytes([len(auth)]) + auth + database + b'\0' + rest
+
+
+def command_out(value):
+    if value == 'nothing':
+        return 'nothing', b''
+    if value[0] == 'change':
+        return change_out(value[1:])
+    first, text = value
+    if first == 3:
+        return [('query', text)], b'\x03' + text
+    known = {1: 'quit', 14: 'ping', 31: 'reset'}
+    return known.get(first, [('other', first)]), bytes([first])
+
+
+WRITERS = {
+    'greeting': greeting_out, 'response': response_out, 'switch': named_out(0xfe), 'more': more_out,
+    'next': named_out(0x02), 'ok': ok_out, 'err': err_out, 'eof': eof_out, 'change': change_out,
+    'command': command_out,
+}
+
+
+def shown(fields):
+    if isinstance(fields, str):
+        return fields + ' '
+    line = ''
+    for name, value in fields:
+        if value is None:
+            line += name + ':none '
+        else:
+            line += '%s=%s ' % (name, value.hex() if isinstance(value, bytes) else value)
+    return line
+
+
+def answer(kind, payload):
+    value = SAMPLES[kind][0](payload)
+    if value is None:
+        return 'at %d' % place(kind, payload)
+    fields, out = WRITERS[kind](value)
+    return shown(fields) + ('same' if out == payload else 'written=' + out.hex())
+
+
+def payloads():
+    """The kinds and payloads, in the order in which they are asked."""
+    for kind, (_, samples) in SAMPLES.items():
+        for sample in samples:
+            for n in range(len(sample) + 1):
+                yield kind, sample[:n]
+            for byte in (0x00, 0xff):
+                for i in range(len(sample)):
+                    yield kind, sample[:i] + bytes([byte]) + sample[i + 1:]
+    for client in CLIENTS.values():
+        yield 'response', client
 
 
 def main():
-    print('//! Sample payloads, and where a reader must stop in them: with the first bytes alone (CUT), with one')
-    print('//! byte made 00 (ZERO), and with one byte made ff (FULL). 255 stands where the bytes are a payload. The')
-    print('//! numbers come from the brute search in vectors/places.py.\n')
-    for kind, (_, samples) in SAMPLES.items():
-        for i, sample in enumerate(samples, 1):
-            name = '%s_%d' % (kind.upper(), i)
-            print(table(name, sample))
-            print(table(name + '_CUT', [place(kind, sample[:n]) for n in range(len(sample) + 1)]))
-            changed = lambda i, b: sample[:i] + bytes([b]) + sample[i + 1:]
-            print(table(name + '_ZERO', [place(kind, changed(i, 0)) for i in range(len(sample))]))
-            print(table(name + '_FULL', [place(kind, changed(i, 255)) for i in range(len(sample))]))
+    wanted = sys.argv[1]
+    for kind, payload in payloads():
+        print('%s %s' % (kind, payload.hex()) if wanted == 'stdin' else answer(kind, payload))
 
 
 main()

@@ -23,6 +23,3 @@ pub use claims::{Claim, ClientOptions, Secrets, has_no_zero};
 pub use client::Client;
 pub use ends::{ClientAct, LoginEnd, Reason};
 pub use logins::login;
-
-#[cfg(test)]
-mod tests;
