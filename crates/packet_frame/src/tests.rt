@@ -1,8 +1,5 @@
 //! Packets by hand, among them one of more than a whole piece, and each fault.
 
-ghost use Rattle.packet_frame.specs.Framing.{place_of};
-ghost use Rattle.std.specs.Prelude.{◌+◌, ◌^◌, ◌≡◌, ◌<◌, ◌≤◌, length, vec_len, IfOk};
-
 use crate::frames::Frames;
 use crate::packets::{FrameFault, Packet, Want};
 use crate::writing::write_packet;
@@ -13,60 +10,183 @@ use std::test::Fail;
 /// The greatest payload of the tests that name no other.
 const LIMIT: u32 = 50_331_645;
 
-/// Feeds bytes, cut into pieces of at most `size`, up to the end of a packet, and answers how many are left.
-fn fed(frames: &mut Frames, bytes: &[u8], size: usize) -> Result<usize, FrameFault>
-    requires in_place { place_of frames.old + length bytes.now ≤ 2 ^ 63 }
-    requires some { 0 < size }
-    ensures { IfOk result (λ left. place_of frames.new + left ≡ place_of frames.old + length bytes.now) }
-{
-    let mut rest = bytes;
-    'pieces: while !rest.is_empty() && !frames.ready() {
-        let end = rest.len().min(size);
-        let count = frames.feed(&rest[..end])?;
-        rest = &rest[count..];
-    }
-    Ok(rest.len())
+// ## Step by step
+
+/// What a reader is asked, and what it has to answer.
+#[derive(Clone, Copy)]
+enum Step {
+    Feed(&'static [u8], Result<usize, FrameFault>),
+    /// The ids of the first and the last piece, the place and the length of the packet that is taken out.
+    Take(Option<(u8, u8, u64, usize)>),
+    Ready(bool),
+    Held(u64),
+    Missing(usize),
+    Place(u64),
+    Expect(Want),
 }
 
-/// The first fault or the packet of a whole stream, whose packets may begin with any id.
-fn first_packet(alloc: Global, bytes: &[u8], size: usize) -> Result<Option<Packet>, FrameFault>
-    requires in_place { length bytes.now ≤ 2 ^ 63 }
-    requires some { 0 < size }
-{
+/// Feeds a piece, where the place stays in its range.
+fn feed(frames: &mut Frames, piece: &[u8]) -> Result<usize, FrameFault> {
+    if frames.place() > 1 << 62 || piece.len() > 1 << 32 {
+        return Err(FrameFault::Memory);
+    }
+    frames.feed(piece)
+}
+
+fn taken(frames: &mut Frames) -> Option<(u8, u8, u64, usize)> {
+    match frames.take() {
+        Some(packet) => {
+            let length = packet.payload.as_slice().len();
+            Some((packet.first, packet.last, packet.at, length))
+        }
+        None => None,
+    }
+}
+
+fn expects(frames: &mut Frames, want: Want) -> bool {
+    if frames.held() != 0 {
+        return false;
+    }
+    frames.expect(want);
+    true
+}
+
+fn answers(frames: &mut Frames, step: &Step) -> bool {
+    match step {
+        Step::Feed(piece, wanted) => feed(frames, piece) == *wanted,
+        Step::Take(wanted) => taken(frames) == *wanted,
+        Step::Ready(wanted) => frames.ready() == *wanted,
+        Step::Held(wanted) => frames.held() == *wanted,
+        Step::Missing(wanted) => frames.missing() == *wanted,
+        Step::Place(wanted) => frames.place() == *wanted,
+        Step::Expect(want) => expects(frames, *want),
+    }
+}
+
+/// The number of the first step, from 0, that isn't answered so.
+fn first_other(alloc: Global, limit: u8, want: Want, steps: &[Step]) -> Option<usize> {
+    let mut frames = Frames::new(alloc, u32::from(limit), want);
+    for (i, step) in steps.iter().enumerate() {
+        if !answers(&mut frames, step) {
+            return Some(i);
+        }
+    }
+    None
+}
+
+const NO_BYTES: [Step; 5] = [
+    Step::Feed(&[], Ok(0)),
+    Step::Ready(false),
+    Step::Take(None),
+    Step::Held(0),
+    Step::Place(0),
+];
+
+const BY_HALVES: [Step; 15] = [
+    Step::Missing(4),
+    Step::Feed(&[1, 0], Ok(2)),
+    Step::Missing(2),
+    Step::Feed(&[0, 0, 7, 1], Ok(2)),
+    Step::Ready(false),
+    Step::Held(4),
+    Step::Missing(1),
+    Step::Feed(&[7, 1], Ok(1)),
+    Step::Ready(true),
+    Step::Held(0),
+    Step::Missing(0),
+    Step::Feed(&[1], Ok(0)),
+    Step::Take(Some((0, 0, 0, 1))),
+    Step::Place(5),
+    Step::Take(None),
+];
+
+const AT_THE_LIMIT: [Step; 1] = [Step::Feed(&[10, 0, 0, 0], Ok(4))];
+
+const OVER_THE_LIMIT: [Step; 5] = [
+    Step::Feed(&[11, 0, 0], Ok(3)),
+    Step::Feed(&[0], Err(FrameFault::TooLarge { at: 0 })),
+    Step::Feed(&[], Err(FrameFault::TooLarge { at: 0 })),
+    Step::Feed(&[1, 2], Err(FrameFault::TooLarge { at: 0 })),
+    Step::Take(None),
+];
+
+const IDS_THAT_WRAP: [Step; 5] = [
+    Step::Feed(&[0, 0, 0, 255], Ok(4)),
+    Step::Take(Some((255, 255, 0, 0))),
+    Step::Feed(&[0, 0, 0, 0], Ok(4)),
+    Step::Take(Some((0, 0, 4, 0))),
+    Step::Feed(
+        &[0, 0, 0, 0],
+        Err(FrameFault::OutOfOrder {
+            at: 8,
+            want: 1,
+            got: 0,
+        }),
+    ),
+];
+
+const ANOTHER_ID: [Step; 4] = [
+    Step::Held(0),
+    Step::Expect(Want::Any),
+    Step::Feed(&[0, 0, 0, 9], Ok(4)),
+    Step::Take(Some((9, 9, 0, 0))),
+];
+
+#[test]
+fn readers_answer_step_by_step(rt: HostRuntime) {
+    for (name, limit, want, steps) in [
+        ("no bytes", 99, Want::Any, NO_BYTES.as_slice()),
+        ("by halves", 99, Want::Exactly(0), BY_HALVES.as_slice()),
+        ("at the limit", 10, Want::Any, AT_THE_LIMIT.as_slice()),
+        ("over it", 10, Want::Any, OVER_THE_LIMIT.as_slice()),
+        ("ids", 99, Want::Exactly(255), IDS_THAT_WRAP.as_slice()),
+        ("another id", 99, Want::Exactly(3), ANOTHER_ID.as_slice()),
+    ] {
+        assert_eq!(rt; first_other(rt.alloc(), limit, want, steps), None, "{name}");
+    }
+}
+
+// ## Whole pieces
+
+/// The first fault or the packet of a whole stream, whose packets may begin with any id. It is fed in pieces of at
+/// most `size`.
+fn first_packet(alloc: Global, bytes: &[u8], size: usize) -> Result<Option<Packet>, FrameFault> {
     let mut frames = Frames::new(alloc, LIMIT, Want::Any);
-    fed(&mut frames, bytes, size)?;
+    let mut rest = bytes;
+    for _ in 0..=bytes.len() {
+        if rest.is_empty() || frames.ready() {
+            break;
+        }
+        let count = feed(&mut frames, rest.get(..size).unwrap_or(rest))?;
+        rest = rest.get(count..).unwrap_or(&[]);
+    }
     Ok(frames.take())
 }
 
 /// A whole piece of zeros with id 0, and the header of an empty piece with another id.
-fn whole_piece(alloc: Global, id: u8) -> Result<Vec<u8>, AllocError>
-    ensures { IfOk result (λ bytes. vec_len bytes ≡ 16777223) }
-{
-    let mut bytes = vec![in alloc; 0u8; 16_777_223]?;
-    bytes[0] = 255;
-    bytes[1] = 255;
-    bytes[2] = 255;
-    bytes[16_777_222] = id;
+fn whole_piece(alloc: Global, id: u8) -> Result<Vec<u8>, AllocError> {
+    let mut bytes = Vec::new(alloc);
+    bytes.extend_from_slice(&[255, 255, 255, 0])?;
+    bytes.resize(16_777_219, 0)?;
+    bytes.extend_from_slice(&[0, 0, 0, id])?;
     Ok(bytes)
+}
+
+/// The ids, the place and the length of a packet.
+fn told(packet: &Packet) -> (u8, u8, u64, usize) {
+    let length = packet.payload.as_slice().len();
+    (packet.first, packet.last, packet.at, length)
 }
 
 #[test]
 fn a_whole_piece_is_continued_by_an_empty_one(rt: HostRuntime) -> Result<(), Fail> {
     let bytes = whole_piece(rt.alloc(), 1)?;
     let packet = first_packet(rt.alloc(), bytes.as_slice(), 65_536)?.ok_or("no packet")?;
-    assert_eq!(rt; packet.first, 0);
-    assert_eq!(rt; packet.last, 1);
-    assert_eq!(rt; packet.at, 0);
-    assert_eq!(rt; packet.payload.as_slice().len(), 16_777_215);
-    Ok(())
-}
-
-#[test]
-fn a_whole_piece_byte_by_byte_is_the_same(rt: HostRuntime) -> Result<(), Fail> {
-    let bytes = whole_piece(rt.alloc(), 1)?;
-    let cut = first_packet(rt.alloc(), bytes.as_slice(), 1)?.ok_or("no packet")?;
-    let whole = first_packet(rt.alloc(), bytes.as_slice(), 16_777_223)?.ok_or("no packet")?;
-    assert_eq!(rt; cut, whole);
+    assert_eq!(rt; told(&packet), (0, 1, 0, 16_777_215));
+    for size in [1, 16_777_223] {
+        let other = first_packet(rt.alloc(), bytes.as_slice(), size)?.ok_or("no packet")?;
+        assert!(rt; other == packet, "pieces of {size}");
+    }
     Ok(())
 }
 
@@ -78,103 +198,39 @@ fn a_wrong_id_after_a_whole_piece_is_a_fault_there(rt: HostRuntime) -> Result<()
         want: 1,
         got: 5,
     };
-    assert_eq!(rt;
-        first_packet(rt.alloc(), bytes.as_slice(), 65_536),
-        Err(fault)
-    );
+    let found = first_packet(rt.alloc(), bytes.as_slice(), 65_536);
+    assert_eq!(rt; found, Err(fault));
     Ok(())
 }
 
-#[test]
-fn no_bytes_are_no_packet(rt: HostRuntime) -> Result<(), Fail> {
-    let mut frames = Frames::new(rt.alloc(), LIMIT, Want::Any);
-    assert_eq!(rt; frames.feed(&[]), Ok(0));
-    assert!(rt; !frames.ready());
-    assert_eq!(rt; frames.take(), None);
-    assert_eq!(rt; frames.held(), 0);
-    assert_eq!(rt; frames.place(), 0);
-    Ok(())
+// ## Writing
+
+/// What is written of a payload, and the id that comes then.
+fn written(alloc: Global, first: u8, payload: &[u8]) -> Result<(u8, Bytes), Memory> {
+    let mut out = Out::new(alloc);
+    let next = write_packet(first, payload, &mut out)?;
+    Ok((next, out.into_bytes()))
 }
 
 #[test]
-fn a_packet_is_held_until_it_is_whole(rt: HostRuntime) -> Result<(), Fail> {
-    let mut frames = Frames::new(rt.alloc(), LIMIT, Want::Exactly(0));
-    assert_eq!(rt; frames.missing(), 4);
-    assert_eq!(rt; frames.feed(&[1, 0]), Ok(2));
-    assert_eq!(rt; frames.missing(), 2);
-    assert_eq!(rt; frames.feed(&[0, 0, 7, 1]), Ok(2));
-    assert!(rt; !frames.ready());
-    assert_eq!(rt; frames.held(), 4);
-    assert_eq!(rt; frames.missing(), 1);
-    assert_eq!(rt; frames.feed(&[7, 1]), Ok(1));
-    assert!(rt; frames.ready());
-    assert_eq!(rt; frames.held(), 0);
-    assert_eq!(rt; frames.missing(), 0);
-    assert_eq!(rt; frames.feed(&[1]), Ok(0));
-    let packet = frames.take().ok_or("no packet")?;
-    assert_eq!(rt; packet.payload.as_slice(), [7].as_slice());
-    assert_eq!(rt; frames.place(), 5);
-    Ok(())
-}
-
-#[test]
-fn one_byte_over_the_limit_is_too_large(rt: HostRuntime) -> Result<(), Fail> {
-    let mut fits = Frames::new(rt.alloc(), 10, Want::Any);
-    assert_eq!(rt; fits.feed(&[10, 0, 0, 0]), Ok(4));
-    let mut over = Frames::new(rt.alloc(), 10, Want::Any);
-    assert_eq!(rt; over.feed(&[11, 0, 0]), Ok(3));
-    assert_eq!(rt; over.feed(&[0]), Err(FrameFault::TooLarge { at: 0 }));
-    assert_eq!(rt; over.feed(&[]), Err(FrameFault::TooLarge { at: 0 }));
-    assert_eq!(rt; over.feed(&[1, 2]), Err(FrameFault::TooLarge { at: 0 }));
-    assert_eq!(rt; over.take(), None);
-    Ok(())
-}
-
-#[test]
-fn ids_wrap_from_255_to_0(rt: HostRuntime) -> Result<(), Fail> {
-    let mut frames = Frames::new(rt.alloc(), LIMIT, Want::Exactly(255));
-    assert_eq!(rt; frames.feed(&[0, 0, 0, 255]), Ok(4));
-    assert_eq!(rt; frames.take().map(|packet| packet.last), Some(255));
-    assert_eq!(rt; frames.feed(&[0, 0, 0, 0]), Ok(4));
-    assert_eq!(rt; frames.take().map(|packet| packet.at), Some(4));
-    let fault = FrameFault::OutOfOrder {
-        at: 8,
-        want: 1,
-        got: 0,
-    };
-    assert_eq!(rt; frames.feed(&[0, 0, 0, 0]), Err(fault));
-    Ok(())
-}
-
-#[test]
-fn the_wanted_id_may_be_set_between_packets(rt: HostRuntime) -> Result<(), Fail> {
-    let mut frames = Frames::new(rt.alloc(), LIMIT, Want::Exactly(3));
-    assert_eq!(rt; frames.held(), 0);
-    frames.expect(Want::Any);
-    assert_eq!(rt; frames.feed(&[0, 0, 0, 9]), Ok(4));
-    let packet = frames.take().ok_or("no packet")?;
-    assert_eq!(rt; (packet.first, packet.last, packet.at), (9, 9, 0));
-    Ok(())
-}
-
-#[test]
-fn a_packet_is_written(rt: HostRuntime) -> Result<(), Memory> {
-    let mut out = Out::new(rt.alloc());
-    assert_eq!(rt; write_packet(2, b"ok".as_slice(), &mut out)?, 3);
-    assert_eq!(rt; write_packet(255, b"".as_slice(), &mut out)?, 0);
-    assert_eq!(rt;
-        out.as_slice(),
-        [2, 0, 0, 2, b'o', b'k', 0, 0, 0, 255].as_slice()
-    );
+fn packets_are_written(rt: HostRuntime) -> Result<(), Fail> {
+    for (first, payload, next, wanted) in [
+        (2, b"ok".as_slice(), 3, b"\x02\x00\x00\x02ok".as_slice()),
+        (255, b"".as_slice(), 0, b"\x00\x00\x00\xff".as_slice()),
+    ] {
+        let (id, bytes) = written(rt.alloc(), first, payload)?;
+        assert_eq!(rt; id, next);
+        assert_eq!(rt; bytes.as_slice(), wanted);
+    }
     Ok(())
 }
 
 #[test]
 fn a_whole_piece_is_written_with_an_empty_one_behind(rt: HostRuntime) -> Result<(), Fail> {
-    let bytes = whole_piece(rt.alloc(), 1)?;
-    let payload = Bytes::copy(rt.alloc(), &bytes.as_slice()[4..16_777_219])?;
-    let mut out = Out::new(rt.alloc());
-    assert_eq!(rt; write_packet(0, payload.as_slice(), &mut out)?, 2);
-    assert!(rt; out.as_slice() == bytes.as_slice());
+    let whole = whole_piece(rt.alloc(), 1)?;
+    let payload = whole.as_slice().get(4..16_777_219).unwrap_or(&[]);
+    let (id, bytes) = written(rt.alloc(), 0, payload)?;
+    assert_eq!(rt; id, 2);
+    assert!(rt; bytes.as_slice() == whole.as_slice());
     Ok(())
 }

@@ -1,16 +1,20 @@
 #!/usr/bin/env python3
-"""Prints src/tests/places.rt: sample statements, and where a reader must stop in them and in what is near them.
+"""Prints what syntax_probe is asked (`places.py stdin`) and what it has to answer (`places.py stdout`): statements
+and what is printed of them, texts and where they are refused, the beginnings of sample statements and samples of
+which one token is edited, and spellings with odd spacing, case and quotes.
 
-The places come from a brute search that shares nothing with the crate: tokens are cut out by a regular
-expression, whole statements are recognised by another one over the tokens, and a token is the first at which no
-statement fits where none of many completions of the tokens up to it is recognised. The completions are the ends
-of the samples, alone or behind one more token of them. The odd spellings are drawn by a fixed seed.
+The first two tables are written by hand. The places near samples come from a brute search that shares nothing
+with the crate: tokens are cut out by a regular expression, whole statements are recognised by another one over
+the tokens, and a token is the first at which no statement fits where none of many completions of the tokens up
+to it is recognised. The completions are the ends of the samples, alone or behind one more token of them. The odd
+spellings are drawn by a fixed seed.
 """
 import functools
 import random
 import re
+import sys
 
-READS = 255
+READS = None
 TOKEN = re.compile(
     rb"(?P<word>[A-Za-z0-9_$]+)|(?P<sign>[@*.,;()])"
     rb"|(?P<text>'(?:''|\\.|[^'\\])*'(?!')|\"(?:\"\"|\\.|[^\"\\])*\"(?!\"))"
@@ -128,11 +132,6 @@ def place(text):
     return len(text)
 
 
-def literal(data):
-    plain = {10: '\\n', 13: '\\r', 9: '\\t', 0: '\\0', 34: '\\"', 92: '\\\\'}
-    return 'b"' + ''.join(plain.get(b, chr(b) if 32 <= b < 127 else '\\x%02x' % b) for b in data) + '"'
-
-
 # What is printed, and its words: a name or a string is a pair.
 NAMES = [b'a', b'', b"it's", b'USER', b'back\\slash', b'two "x"', b'b`q', b'\0nul', b'tab\tand\nline', b'100%']
 PRINTED = [
@@ -221,55 +220,149 @@ def odd(draw, words_):
     return text + draw.choice((b'', b';', b' ; ', b'\n'))
 
 
-def main():
-    print('//! Sample statements, and where a reader must stop in their beginnings and where one token is edited; 255 stands')
-    print('//! where the bytes are a statement. Then statements as they are printed, and spelled in odd spacing, case and')
-    print('//! quotes. All of it comes from vectors/places.py, and `rt fmt` laid it out.\n')
-    print('/// A statement and places, each a byte.')
-    print('pub struct Sample {')
-    print('    pub text: &\'static [u8],')
-    print('    /// The place of each beginning, by its length.')
-    print('    pub cut: &\'static [u8],')
-    print('    /// Where each token starts and stops.')
-    print('    pub starts: &\'static [u8],')
-    print('    pub stops: &\'static [u8],')
-    print('    /// The place where the token is dropped, doubled, made `or` and made a byte that begins none.')
-    for name in ('dropped', 'doubled', 'worded', 'spoiled'):
-        print('    pub %s: &\'static [u8],' % name)
-    print('}\n')
-    for i, sample in enumerate(SAMPLES, 1):
+# Statements, and what is printed of them.
+SHOWN = [
+    (b"create user a", b"CREATE USER 'a'@'%'"),
+    (b"alter user user() discard old password", b"ALTER USER USER() DISCARD OLD PASSWORD"),
+    (b"DROP\tUSER a @ LocalHost\r\n;", b"DROP USER 'a'@'localhost'"),
+    (b"Flush Privileges", b"FLUSH PRIVILEGES"),
+    (b"grant application_password_admin,create user,create user on*.*to a",
+     b"GRANT CREATE USER, APPLICATION_PASSWORD_ADMIN ON *.* TO 'a'@'%'"),
+    (b"REVOKE CREATE USER ON * . * FROM a@`%`", b"REVOKE CREATE USER ON *.* FROM 'a'@'%'"),
+    (b"ALTER USER USER ( ) IDENTIFIED BY \"p\" RETAIN CURRENT PASSWORD;",
+     b"ALTER USER USER() IDENTIFIED BY 'p' RETAIN CURRENT PASSWORD"),
+    (b"ALTER USER 'a' IDENTIFIED WITH foo BY 'q'", b"ALTER USER 'a'@'%' IDENTIFIED WITH 'foo' BY 'q'"),
+    (b"ALTER USER 'a' DROP 2 FACTOR", b"ALTER USER 'a'@'%' DROP 2 FACTOR"),
+    (b"ALTER USER 'a' ADD 2 FACTOR IDENTIFIED WITH external_clear AS ''",
+     b"ALTER USER 'a'@'%' ADD 2 FACTOR IDENTIFIED WITH 'external_clear' AS ''"),
+    (b"ALTER USER a MODIFY 3 FACTOR IDENTIFIED WITH \"m\" AS 'l'",
+     b"ALTER USER 'a'@'%' MODIFY 3 FACTOR IDENTIFIED WITH 'm' AS 'l'"),
+    (b"ALTER USER 'a' IDENTIFIED WITH mysql_native_password BY 'q' RETAIN CURRENT PASSWORD",
+     b"ALTER USER 'a'@'%' IDENTIFIED WITH 'mysql_native_password' BY 'q' RETAIN CURRENT PASSWORD"),
+    (b"ALTER USER 'root'@'localhost' IDENTIFIED BY 'q' RETAIN CURRENT PASSWORD",
+     b"ALTER USER 'root'@'localhost' IDENTIFIED BY 'q' RETAIN CURRENT PASSWORD"),
+    (b"CREATE USER 'a' IDENTIFIED BY 'p'", b"CREATE USER 'a'@'%' IDENTIFIED BY 'p'"),
+    (b"CREATE USER ''@'localhost'", b"CREATE USER ''@'localhost'"),
+    (b"CREATE USER a IDENTIFIED WITH Caching_SHA2_password",
+     b"CREATE USER 'a'@'%' IDENTIFIED WITH 'Caching_SHA2_password'"),
+    (b"CREATE USER a IDENTIFIED WITH `m` BY 'p' AND IDENTIFIED WITH x AS 'y' AND IDENTIFIED WITH z AS \"\"",
+     b"CREATE USER 'a'@'%' IDENTIFIED WITH 'm' BY 'p' AND IDENTIFIED WITH 'x' AS 'y' AND IDENTIFIED WITH 'z' AS ''"),
+    (b"ALTER USER 'b' ACCOUNT LOCK", b"ALTER USER 'b'@'%' ACCOUNT LOCK"),
+    (b"ALTER USER 'a' PASSWORD HISTORY 257", b"ALTER USER 'a'@'%' PASSWORD HISTORY 257"),
+    (b"ALTER USER 'a' FAILED_LOGIN_ATTEMPTS 99999 FAILED_LOGIN_ATTEMPTS 2",
+     b"ALTER USER 'a'@'%' FAILED_LOGIN_ATTEMPTS 2"),
+    (b"ALTER USER a FAILED_LOGIN_ATTEMPTS 4294967296 PASSWORD HISTORY 007",
+     b"ALTER USER 'a'@'%' PASSWORD HISTORY 7 FAILED_LOGIN_ATTEMPTS 4294967295"),
+    (b"ALTER USER a PASSWORD_LOCK_TIME 99999999999999999999999", b"ALTER USER 'a'@'%' PASSWORD_LOCK_TIME 4294967295"),
+    (b"CREATE USER a ACCOUNT LOCK ACCOUNT UNLOCK PASSWORD_LOCK_TIME UNBOUNDED PASSWORD REUSE INTERVAL DEFAULT PASSWORD EXPIRE INTERVAL 3 DAY",
+     b"CREATE USER 'a'@'%' PASSWORD EXPIRE INTERVAL 3 DAY PASSWORD REUSE INTERVAL DEFAULT PASSWORD_LOCK_TIME UNBOUNDED ACCOUNT UNLOCK"),
+    (b"CREATE USER a PASSWORD EXPIRE NEVER PASSWORD EXPIRE PASSWORD HISTORY DEFAULT PASSWORD REUSE INTERVAL 4 DAY PASSWORD_LOCK_TIME 5",
+     b"CREATE USER 'a'@'%' PASSWORD EXPIRE PASSWORD HISTORY DEFAULT PASSWORD REUSE INTERVAL 4 DAY PASSWORD_LOCK_TIME 5"),
+    (b"CREATE USER a PASSWORD EXPIRE DEFAULT PASSWORD EXPIRE NEVER", b"CREATE USER 'a'@'%' PASSWORD EXPIRE NEVER"),
+    (b"alter user user account lock", b"ALTER USER 'user'@'%' ACCOUNT LOCK"),
+    (b"alter user User@localhost account unlock", b"ALTER USER 'User'@'localhost' ACCOUNT UNLOCK"),
+    (b"create user create identified with with by 'by'", b"CREATE USER 'create'@'%' IDENTIFIED WITH 'with' BY 'by'"),
+    (b"drop user user", b"DROP USER 'user'@'%'"),
+    (b"drop user 2", b"DROP USER '2'@'%'"),
+    (b"DROP USER 'a\\'b''c\\\\d\\%\\_\\0\\n\\r\\t\\b\\Z\\x\"'",
+     b"DROP USER 'a''b''c\\\\d\\\\%\\\\_\\0\n\r\t\x08\x1ax\"'@'%'"),
+    (b"DROP USER \"a\\\"b\"\"c'\"", b"DROP USER 'a\"b\"c'''@'%'"),
+    (b"DROP USER `a\\n``b`", b"DROP USER 'a\\\\n`b'@'%'"),
+    (b"DROP USER 'a\n\xff'", b"DROP USER 'a\n\xff'@'%'"),
+    (b"DROP USER '\\0'", b"DROP USER '\\0'@'%'"),
+    (b"DROP USER \"\\n\\r\\t\\b\\Z\"", b"DROP USER '\n\r\t\x08\x1a'@'%'"),
+    (b"DROP USER '\\%\\_'", b"DROP USER '\\\\%\\\\_'@'%'"),
+    (b"DROP USER '\\'\\\"\\\\'", b"DROP USER '''\"\\\\'@'%'"),
+    (b"ALTER USER a IDENTIFIED BY '\\%\\q'", b"ALTER USER 'a'@'%' IDENTIFIED BY '\\\\%q'"),
+    (b"DROP USER ''''", b"DROP USER ''''@'%'"),
+    (b"DROP USER \"\"\"\"", b"DROP USER '\"'@'%'"),
+    (b"DROP USER ````", b"DROP USER '`'@'%'"),
+    (b"DROP USER `\\`", b"DROP USER '\\\\'@'%'"),
+    (b"ALTER USER a PASSWORD HISTORY 4294967294 PASSWORD REUSE INTERVAL 4294967295 DAY FAILED_LOGIN_ATTEMPTS 4294967296",
+     b"ALTER USER 'a'@'%' PASSWORD HISTORY 4294967294 PASSWORD REUSE INTERVAL 4294967295 DAY FAILED_LOGIN_ATTEMPTS 4294967295"),
+    (b"ALTER USER a PASSWORD EXPIRE INTERVAL 18446744073709551616 DAY PASSWORD_LOCK_TIME 00000000000000000000004294967297",
+     b"ALTER USER 'a'@'%' PASSWORD EXPIRE INTERVAL 4294967295 DAY PASSWORD_LOCK_TIME 4294967295"),
+]
+
+# Texts, and where they are refused.
+REFUSED = [
+    (b"ALTER USER", 10),
+    (b"", 0),
+    (b"  \n", 3),
+    (b"FLUSH", 5),
+    (b"ALTER USER a", 12),
+    (b"ALTER USER a  ", 14),
+    (b"CREATE USER a IDENTIFIED BY 'p' AND", 35),
+    (b"ALTER USER USER (", 17),
+    (b"ALTER USER a PASSWORD HISTORY", 29),
+    (b"GRANT CREATE USER,", 18),
+    (b"DROP USER a@", 12),
+    (b"CREATE USER 'a'@'h'", 16),
+    (b"CREATE USER a@%", 14),
+    (b"FLUSH TABLES", 6),
+    (b"FLUSH PRIVILEGES ;;", 18),
+    (b"FLUSH PRIVILEGES ; x", 19),
+    (b"ALTER USER a;", 12),
+    (b"CREATE USER a IDENTIFIED BY `p`", 28),
+    (b"CREATE USER a IDENTIFIED BY 'p' RETAIN CURRENT PASSWORD", 32),
+    (b"CREATE USER a IDENTIFIED WITH m AS 'l'", 32),
+    (b"ALTER USER a ADD 4 FACTOR", 17),
+    (b"ALTER USER a ADD 02 FACTOR", 17),
+    (b"ALTER USER a PASSWORD HISTORY ACCOUNT LOCK", 30),
+    (b"ALTER USER a FAILED_LOGIN_ATTEMPTS -1", 35),
+    (b"ALTER USER a FAILED_LOGIN_ATTEMPTS 1x", 35),
+    (b"CREATE USER a IDENTIFIED BY '' AND IDENTIFIED WITH x AS '' AND IDENTIFIED WITH x AS '' AND", 87),
+    (b"CREATE USER a AND", 14),
+    (b"GRANT CREATE USER ON *.* FROM a", 25),
+    (b"GRANT CREATE ON *.* TO a", 13),
+    (b"ALTER USER USER ( ) ACCOUNT LOCK", 20),
+    (b"ALTER USER USER() IDENTIFIED WITH m", 29),
+    (b"ALTER USER `USER`() DISCARD OLD PASSWORD", 17),
+    (b"ALTER USER a ACCOUNT LOCK DISCARD OLD PASSWORD", 26),
+    (b"ALTER USER a IDENTIFIED WITH m RETAIN CURRENT PASSWORD", 31),
+    (b"'ALTER' USER a", 0),
+    (b"DROP USER a%", 11),
+    (b"DROP TABLE %", 5),
+    (b"CREATE USER 'a\\'", 12),
+    (b"CREATE USER 'a", 12),
+    (b"CREATE USER `a``", 12),
+    (b"DROP USER a 'b", 12),
+    (b"DROP USER 'a'' ;", 10),
+    (b"FLUSH PRIVILEGES; #", 18),
+    (b"DROP USER '\\", 10),
+    (b"DROP USER \"a\\\"", 10),
+    (b"DROP USER '''", 10),
+    (b"ALTER USER a IDENTIFIED BY 'p\\'", 27),
+]
+
+
+def cases():
+    """What is asked, and its answer."""
+    for text, shown in SHOWN:
+        yield 'print', text, shown.hex()
+    for text, at in REFUSED:
+        yield 'place', text, at
+    for sample in SAMPLES:
         found = tokens(sample)
-        cut = lambda k, new: sample[:found[k][1]] + new + sample[found[k][2]:]
-        spelled = lambda k: sample[found[k][1]:found[k][2]]
-        each = range(len(found))
-        print('pub const SAMPLE_%d: Sample = Sample {' % i)
-        print('    text: %s,' % literal(sample))
-        for name, places in [
-                ('cut', [place(sample[:n]) for n in range(len(sample) + 1)]),
-                ('starts', [found[k][1] for k in each]),
-                ('stops', [found[k][2] for k in each]),
-                ('dropped', [place(cut(k, b' ')) for k in each]),
-                ('doubled', [place(cut(k, spelled(k) + b' ' + spelled(k))) for k in each]),
-                ('worded', [place(cut(k, b' or ')) for k in each]),
-                ('spoiled', [place(cut(k, b'?')) for k in each])]:
-            print('    %s: b"%s",' % (name, ''.join('\\x%02x' % v for v in places)))
-        print('};\n')
+        near = [sample[:n] for n in range(len(sample) + 1)]
+        for _, start, stop in found:
+            token = sample[start:stop]
+            for new in [b' ', token + b' ' + token, b' or ', b'?']:
+                near.append(sample[:start] + new + sample[stop:])
+        for text in near:
+            at = place(text)
+            yield 'place', text, 'read' if at is READS else at
     draw = random.Random(20261201)
-    print('/// A statement as it is printed, and three other spellings of it.')
-    print('pub struct Spelled {')
-    print('    pub printed: &\'static [u8],')
-    for name in ('one', 'two', 'three'):
-        print('    pub %s: &\'static [u8],' % name)
-    print('}\n')
-    for i, words_ in enumerate(PRINTED, 1):
-        print('pub const SPELLED_%d: Spelled = Spelled {' % i)
-        print('    printed: %s,' % literal(printed(words_)))
-        for name in ('one', 'two', 'three'):
-            text = odd(draw, words_)
-            if place(text) != READS:
-                raise SystemExit('an odd spelling is no statement: %r' % text)
-            print('    %s: %s,' % (name, literal(text)))
-        print('};\n')
+    for words_ in PRINTED:
+        shown = printed(words_).hex()
+        yield 'print', printed(words_), shown
+        for _ in range(3):
+            yield 'print', odd(draw, words_), shown
+
+
+def main():
+    for kind, text, answer in cases():
+        print('%s %s' % (kind, text.hex()) if sys.argv[1] == 'stdin' else answer)
 
 
 main()
