@@ -4,10 +4,11 @@ ghost use Rattle.client_wire.specs.Ends.{standing_of};
 ghost use Rattle.login_client.specs.Talk.{IsWaiting};
 ghost use Rattle.std.specs.Prelude.{IfOk};
 
-use crate::{ClientEnd, add_packet, add_packets, add_words};
-use lg_base::{Bytes, Items, Memory, Out};
+use crate::{ClientEnd, add_words};
+use lg_base::{Bytes, Memory, Out};
 use login_client::{ClientOptions, LoginEnd, Reason, Secrets, has_no_zero};
 use packet_frame::FrameFault;
+use packet_stream::add_packet;
 use std::alloc::Global;
 use std::process::Abort;
 use std::test::Fail;
@@ -172,45 +173,6 @@ fn bytes_behind_the_end_are_left(rt: HostRuntime) -> Result<(), Fail> {
     check_cut(&rt, alloc, bytes.as_slice(), 0, end, ANSWER)?;
     let faulty = packets(alloc, &[(0, GREETING), (2, OK), (9, ERR)])?;
     check_cut(&rt, alloc, faulty.as_slice(), 0, end, ANSWER)?;
-    Ok(())
-}
-
-/// The header that stands at a place.
-fn header_at(text: &[u8], at: usize) -> &[u8] {
-    let rest = &text[at.min(text.len())..];
-    &rest[..rest.len().min(4)]
-}
-
-#[test]
-fn a_payload_of_a_whole_piece_is_followed_by_an_empty_one(rt: HostRuntime) -> Result<(), Fail> {
-    let alloc = rt.alloc();
-    let payload = vec![in alloc; 7u8; 16_777_215]?;
-    let mut out = Out::new(alloc);
-    assert_eq!(rt; add_packet(&mut out, 255, payload.as_slice())?, 1);
-    assert_eq!(rt; out.as_slice().len(), 16_777_223);
-    assert_eq!(rt;
-        header_at(out.as_slice(), 0),
-        b"\xff\xff\xff\xff".as_slice()
-    );
-    assert_eq!(rt;
-        header_at(out.as_slice(), 16_777_219),
-        b"\x00\x00\x00\x00".as_slice()
-    );
-    Ok(())
-}
-
-#[test]
-fn packets_have_rising_ids(rt: HostRuntime) -> Result<(), Fail> {
-    let alloc = rt.alloc();
-    let mut payloads = Items::new(alloc);
-    payloads.push(Bytes::copy(alloc, b"ab")?)?;
-    payloads.push(Bytes::copy(alloc, b"")?)?;
-    let mut out = Out::new(alloc);
-    add_packets(&mut out, 255, payloads.as_slice())?;
-    assert_eq!(rt;
-        out.as_slice(),
-        b"\x02\x00\x00\xffab\x00\x00\x00\x00".as_slice()
-    );
     Ok(())
 }
 

@@ -1,10 +1,13 @@
 -- The talk that each phase of a session stands for.
-use Rattle.std.specs.Prelude.{◌≡◌, ℕ}
+use Rattle.std.specs.Prelude.{◌≡◌, ℕ, Bool, true, false}
+use Rattle.packet_frame.specs.declared.packets.FrameFault.TheVariants.{Memory as NoMemory}
 use Rattle.session_engine.specs.declared.phases.Phase.{Phase}
 use Rattle.session_engine.specs.declared.phases.Phase.TheVariants as phase
 use Rattle.session_engine.specs.declared.session.Session.{Session}
 use Rattle.session_engine.specs.declared.steps.Step.{Step}
 use Rattle.session_talk.specs.declared.ends.SessionEnd.TheVariants as end
+use Rattle.session_talk.specs.declared.inputs.Input.{Input}
+use Rattle.session_talk.specs.declared.inputs.Input.TheVariants as input
 use Rattle.session_talk.specs.Logins as login
 use Rattle.session_talk.specs.Talk.{Talk, Over}
 use Rattle.session_talk.specs.Turns.{IsBegun, question, rest, said}
@@ -38,6 +41,11 @@ talk_of_session session = talk_of session.phase
 -- the sequence id of a session's next packet
 abbrev pub next_of : Session → ℕ
 next_of session = session.next
+
+-- there was no memory to read a packet
+abbrev pub had_no_memory : Input → Bool
+had_no_memory (input.Frame NoMemory) = true
+had_no_memory _ = false
 
 -- for want of memory
 abbrev pub HasFailed : Session → Type 0

@@ -1,5 +1,6 @@
 //! Which inputs answer what a session waits for, and sequence ids.
 
+ghost use Rattle.session_engine.specs.Standing as engine;
 ghost use Rattle.session_engine.specs.Standing.{talk_of};
 ghost use Rattle.session_talk.specs.Turns as turn;
 ghost use Rattle.session_talk.specs.Turns.{is_salt_byte, has_few_labels};
@@ -8,7 +9,7 @@ ghost use Rattle.packet_frame.specs.Packets as frame;
 
 use crate::phases::Phase;
 use factor_chain::Look;
-use packet_frame::Packet;
+use packet_frame::FrameFault;
 use session_talk::{Input, SessionEnd};
 
 /// Whether a nonce is of the alphabet of salts.
@@ -66,6 +67,13 @@ fn is_draw(input: &Input) -> bool
         Input::Drawn(nonce) => is_nonce(nonce),
         _ => false,
     }
+}
+
+/// Whether there was no memory to read a packet.
+pub fn had_no_memory(input: &Input) -> bool
+    ensures { result ≡ engine.had_no_memory input.now }
+{
+    matches!(input, Input::Frame(FrameFault::Memory))
 }
 
 impl Phase {

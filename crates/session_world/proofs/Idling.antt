@@ -6,13 +6,13 @@ use Rattle.packet_frame.specs.declared.packets.FrameFault.{FrameFault}
 use Rattle.packet_frame.specs.declared.packets.FrameFault.TheVariants.{TooLarge, OutOfOrder, Memory as NoMemory}
 use Rattle.session_talk.specs.Talk.{Talk, Says, Hears, Draws, Looks, Checks, Settles, SettlesLocked, Over}
 use Rattle.session_talk.specs.Turns.{faulted, wanted}
-use Rattle.packet_stream.specs.Streams.{Stream, behind_of, front_of}
+use Rattle.packet_stream.specs.Streams.{Stream, behind_of, by_front, front_of}
 use Rattle.session_world.specs.declared.calls.Calls.{Calls}
 use Rattle.session_world.specs.declared.calls.Calls.TheVariants.{Nothing, One, All}
 use Rattle.session_world.specs.declared.calls.Peer.{Peer}
 use Rattle.session_world.specs.declared.calls.Peer.TheVariants.{Open, Closed, Failed}
 use Rattle.world_table.specs.Drawing.{drawn_nonce}
-use Rattle.session_world.specs.Going.{Gone, by_front, closing, going, if_allowed, unread_by}
+use Rattle.session_world.specs.Going.{Gone, closing, going, if_allowed, unread_by}
 use Rattle.world_table.specs.Table.{Common, is_stale, with_draw}
 use Rattle.world_table.specs.Printing.{Adds, Ends, Idle, Line, Sends, Stale}
 use Rattle.session_world.specs.Transcripts.{IdleDoingsChangeNothing}

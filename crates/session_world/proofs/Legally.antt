@@ -13,12 +13,12 @@ use Rattle.account_history.specs.declared.entries.Log.{Log}
 use Rattle.session_talk.specs.Talk.{Talk, Says, Hears, Draws, Looks, Checks, Settles, SettlesLocked, Over}
 use Rattle.session_talk.specs.Turns.{faulted, wanted}
 use Rattle.packet_stream.specs.Sent.{id_behind}
-use Rattle.packet_stream.specs.Streams.{Stream, behind_of, front_of}
+use Rattle.packet_stream.specs.Streams.{Stream, behind_of, by_front, front_of}
 use Rattle.session_world.specs.declared.calls.Calls.{Calls}
 use Rattle.session_world.specs.declared.calls.Peer.{Peer}
 use Rattle.session_world.specs.declared.calls.Peer.TheVariants.{Open, Closed, Failed}
 use Rattle.world_table.specs.Drawing.{drawn_nonce}
-use Rattle.session_world.specs.Going.{Gone, by_front, closing, going, spent, unread_by}
+use Rattle.session_world.specs.Going.{Gone, closing, going, spent, unread_by}
 use Rattle.world_table.specs.Table.{Common, attempted, is_stale, replied, seen, with_draw, with_entry}
 use Rattle.world_table.specs.Printing.{Adds, Ends, Idle, Line, Sends, Stale}
 use Rattle.session_world.specs.Lines.{Numbered, entries_in, numbered_in}

@@ -17,16 +17,15 @@ use Rattle.packet_stream.specs.Sent.{Sent, id_behind}
 use Rattle.session_talk.specs.Talk.{Talk, Says, Hears, Draws, Looks, Checks, Settles, SettlesLocked, Over}
 use Rattle.session_talk.specs.Transcript.{Enters, Reading, after_packet, by_packet, ended, read_of}
 use Rattle.session_talk.specs.Turns.{faulted, wanted}
-use Rattle.packet_stream.specs.Streams as streams
 use Rattle.session_talk.specs.Wired as wiring
 use Rattle.session_talk.specs.Wired.{Wired, after_sent, said_from, wired}
-use Rattle.packet_stream.specs.Streams.{Stream, behind_of, front_of}
+use Rattle.packet_stream.specs.Streams.{Stream, behind_of, by_front, front_of}
 use Rattle.both_ends.specs.Meeting.{AreNonces}
 use Rattle.session_world.specs.declared.calls.Calls.{Calls}
 use Rattle.session_world.specs.declared.calls.Peer.{Peer}
 use Rattle.session_world.specs.declared.calls.Peer.TheVariants.{Open, Closed, Failed}
 use Rattle.world_table.specs.Drawing.{drawn_nonce}
-use Rattle.session_world.specs.Going.{Gone, by_front, closing, going, spent, stops, unread_by}
+use Rattle.session_world.specs.Going.{Gone, closing, going, spent, stops, unread_by}
 use Rattle.world_table.specs.Table.{Common, attempted, is_stale, replied, seen, with_draw, with_entry}
 use Rattle.session_world.specs.Lines.{ends_in, entries_in, sends_in}
 use Rattle.session_world.specs.Transcripts.{as_told}
@@ -118,7 +117,7 @@ module _ (peer : Peer) (calls : Calls) (c : Common) (next : ℕ) (anew : Bool) (
   read_at owns f = by_packet (λ packet behind. after_packet packet (read_of (id_after packet.last) (k packet.payload) behind owns)) stream f
 
   abbrev wired_at : List Own → Front → Wired
-  wired_at owns f = streams.by_front (λ last payload behind. wired (id_after last) (k payload) (behind_of stream behind) owns)
+  wired_at owns f = by_front (λ last payload behind. wired (id_after last) (k payload) (behind_of stream behind) owns)
       (wiring.stops next (Hears anew k) stream owns) (λ fault. said_from (id_after (wanted anew next)) (faulted fault) stream owns) f
 
   abbrev gone_at : Front → Gone

@@ -14,7 +14,7 @@ use Rattle.account_history.specs.declared.entries.Who.{Who}
 use Rattle.packet_stream.specs.Sent.{id_behind, id_behind_all, sent_from}
 use Rattle.session_talk.specs.Talk.{Talk, Says, Hears, Draws, Looks, Checks, Settles, SettlesLocked, Over}
 use Rattle.session_talk.specs.Turns.{IsBegun, asked, faulted, first_id, heard, question, rest, said, wanted, wanted_by}
-use Rattle.packet_stream.specs.Streams.{Stream, behind_of, front_of}
+use Rattle.packet_stream.specs.Streams.{Stream, behind_of, by_front, front_of}
 use Rattle.session_talk.specs.declared.actions.Ask.TheVariants as ask
 use Rattle.session_talk.specs.declared.ends.SessionEnd.{SessionEnd}
 use Rattle.session_talk.specs.declared.inputs.Input.{Input}
@@ -23,7 +23,7 @@ use Rattle.session_world.specs.declared.calls.Calls.{Calls}
 use Rattle.session_world.specs.declared.calls.Calls.TheVariants.{Nothing, One, All}
 use Rattle.session_world.specs.declared.calls.Peer.{Peer}
 use Rattle.world_table.specs.Drawing.{drawn_nonce}
-use Rattle.session_world.specs.Going.{Gone, adding, after_line, by_front, closing, going, if_allowed, over, spent, unread_by}
+use Rattle.session_world.specs.Going.{Gone, adding, after_line, closing, going, if_allowed, over, spent, unread_by}
 use Rattle.world_table.specs.Table.{Common, attempted, is_stale, next_number, replied, seen, with_draw, with_entry}
 use Rattle.world_table.specs.Printing.{Adds, Sends, Stale}
 use Rattle.session_world.specs.Leading.{after_lines}

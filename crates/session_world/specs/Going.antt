@@ -1,9 +1,7 @@
 -- How a session goes on in a world: it reads what its peer has sent, is given draws and checks at once, and is
 -- answered as many calls of the account store as an event allows.
 use Rattle.std.specs.Prelude.{ℕ, ◌+◌, ◌==◌, not, if◌then◌else◌, List, [], ◌∷◌, length}
-use Rattle.packet_frame.specs.Front.{Front, Whole, Part, Fault}
 use Rattle.packet_frame.specs.Packets.{id_after}
-use Rattle.packet_frame.specs.declared.packets.FrameFault.{FrameFault}
 use Rattle.account_history.specs.declared.entries.Entry.{Entry}
 use Rattle.account_history.specs.declared.entries.Entry.TheVariants.{Observed}
 use Rattle.session_talk.specs.declared.ends.SessionEnd.{SessionEnd}
@@ -11,7 +9,7 @@ use Rattle.session_talk.specs.declared.ends.SessionEnd.TheVariants as end
 use Rattle.session_talk.specs.Talk.{Talk, Says, Hears, Draws, Looks, Checks, Settles, SettlesLocked, Over}
 use Rattle.session_talk.specs.Turns.{faulted, wanted}
 use Rattle.packet_stream.specs.Sent.{id_behind}
-use Rattle.packet_stream.specs.Streams.{Stream, behind_of, front_of}
+use Rattle.packet_stream.specs.Streams.{Stream, behind_of, by_front, front_of}
 use Rattle.world_table.specs.Drawing.{drawn_nonce}
 use Rattle.world_table.specs.Table.{Common, attempted, is_stale, next_number, replied, seen, with_draw, with_entry}
 use Rattle.world_table.specs.Printing.{Adds, Ends, Line, Sends, Stale}
@@ -51,11 +49,6 @@ abbrev pub unread_by : Peer → Common → ℕ → Talk → Stream → Gone
 unread_by Open c next t stream = stops c next t stream
 unread_by Closed c next t stream = over c next (end.PeerClosed (not (length stream.bytes == 0))) stream
 unread_by Failed c next t stream = over c next end.LinkFault stream
-
-abbrev pub by_front : (ℕ → List ℕ → List ℕ → Gone) → Gone → (FrameFault → Gone) → Front → Gone
-by_front whole part fault (Whole first last payload behind) = whole last payload behind
-by_front whole part fault (Part missing) = part
-by_front whole part fault (Fault found) = fault found
 
 -- the calls that are left after one
 abbrev pub spent : Calls → Calls

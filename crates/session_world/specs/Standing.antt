@@ -1,5 +1,5 @@
 -- What is kept of a world, and the text of a whole replay.
-use Rattle.std.specs.Prelude.{◌≡◌, ℕ, true, List, ◌++◌, length}
+use Rattle.std.specs.Prelude.{◌≡◌, ℕ, false, true, List, ◌++◌, length}
 use Rattle.account_history.specs.declared.entries.Opening.{Opening}
 use Rattle.account_rules.specs.declared.accounts.Settings.{Settings}
 use Rattle.script_text.specs.declared.event.Event.{Event}
@@ -8,9 +8,9 @@ use Rattle.session_world.specs.Replays.{Replay, after_events, new_replay, text_o
 use Rattle.session_world.specs.Staged.{Stands}
 use Rattle.session_world.specs.declared.world.World.{World}
 
--- what is kept is this replay
+-- what is kept is this replay, and no event has failed
 unfoldable pub Mirrors : World → Replay → Type 0
-Mirrors kept r = Stands kept.stage r
+Mirrors kept r = (kept.failed ≡ false) × Stands kept.stage r
 
 -- there was no memory for an event
 unfoldable pub HasFailed : World → Type 0

@@ -68,12 +68,17 @@ impl World {
         Ok(())
     }
 
-    /// Adds the last line: how many entries the history has. After `Memory` nothing is added.
-    #[tactic(auto, unfolding(crate::specs::Standing::Mirrors))]
+    /// Adds the last line: how many entries the history has. After `Memory` nothing is added. A world that has failed
+    /// answers so.
+    #[tactic(auto, unfolding(crate::specs::Standing::HasFailed, crate::specs::Standing::Mirrors))]
     pub fn finish(&self, out: &mut Out) -> Result<(), Memory>
         ensures printed { (r : Replay) → Mirrors self.now r → OnOk result (out.new ≡ out.old ++ last_text r) }
         ensures unprinted { OnErr result (out.new ≡ out.old) }
+        ensures stays { HasFailed self.now → IsErr result }
     {
+        if self.failed {
+            return Err(Memory);
+        }
         let mut line = Out::new(self.alloc);
         print_last(&mut line, self.stage.state.table.entries())?;
         out.bytes(line.as_slice())
