@@ -164,8 +164,7 @@ abbrev pub is_further : List ℕ → Bool
 is_further name = is_same name (codes "external_clear")
 
 abbrev pub unknown_further : List FactorAuth → Option (List ℕ)
-unknown_further [] = None
-unknown_further (factor ∷ factors) = if is_further factor.method then unknown_further factors else Some factor.method
+unknown_further factors = option_map (λ factor. factor.method) (find (λ factor. not (is_further factor.method)) factors)
 
 -- 1524: the first method in the statement that isn't known
 abbrev pub unknown_method : Statement → Option (List ℕ)

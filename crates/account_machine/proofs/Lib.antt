@@ -2,6 +2,7 @@ mod Attempts
 mod Labelled
 mod Places
 mod Raised
+mod Refusing
 mod Seen
 mod Starts
 mod Written

@@ -3,5 +3,6 @@ pub mod Counting
 pub mod Labels
 pub mod Looks
 pub mod Openings
+pub mod Pasts
 pub mod Rows
 pub mod Stands

@@ -8,10 +8,14 @@
 //! `factor_chain` and `login_lock`.
 #![tactic(auto)]
 
+mod effects;
 mod looks;
 pub mod machine;
 mod notes;
 mod openings;
+mod options;
+mod passwords;
+mod refusals;
 pub mod rows;
 pub mod stamps;
 #[cfg(test)]

@@ -30,7 +30,7 @@ fn find_numbered(rows: &[Row], id: u64) -> Option<usize>
     rows.iter().position(|row| row.account.id == id)
 }
 
-fn copy_name(alloc: Global, name: &Name) -> Result<Name, Memory>
+pub fn copy_name(alloc: Global, name: &Name) -> Result<Name, Memory>
     ensures { IfOk result (λ made. made ≡ name.now) }
 {
     Ok(Name {
@@ -39,7 +39,7 @@ fn copy_name(alloc: Global, name: &Name) -> Result<Name, Memory>
     })
 }
 
-fn copy_labels(alloc: Global, labels: &Items<Bytes>) -> Result<Items<Bytes>, Memory>
+pub fn copy_labels(alloc: Global, labels: &Items<Bytes>) -> Result<Items<Bytes>, Memory>
     ensures { IfOk result (λ made. made ≡ labels.now) }
 {
     let all = labels.as_slice();
@@ -50,7 +50,7 @@ fn copy_labels(alloc: Global, labels: &Items<Bytes>) -> Result<Items<Bytes>, Mem
     Ok(made)
 }
 
-fn copy_past(alloc: Global, past: &Items<PastRecord>) -> Result<Items<PastRecord>, Memory>
+pub fn copy_past(alloc: Global, past: &Items<PastRecord>) -> Result<Items<PastRecord>, Memory>
     ensures { IfOk result (λ made. made ≡ past.now) }
 {
     Ok(Items::from_vec(Vec::from_slice(alloc, past.as_slice())?))
