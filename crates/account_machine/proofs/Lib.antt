@@ -1,8 +1,10 @@
 mod Attempts
+mod Found
 mod Labelled
 mod Places
 mod Raised
 mod Refusing
+mod Replaced
 mod Seen
 mod Starts
 mod Written

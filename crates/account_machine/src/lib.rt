@@ -9,6 +9,8 @@
 #![tactic(auto)]
 
 mod effects;
+pub mod executing;
+mod keeping;
 mod looks;
 pub mod machine;
 mod notes;
@@ -18,6 +20,7 @@ mod passwords;
 mod refusals;
 pub mod rows;
 pub mod stamps;
+mod targets;
 #[cfg(test)]
 mod tests;
 
