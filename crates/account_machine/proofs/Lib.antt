@@ -1,4 +1,5 @@
 mod Attempts
+mod Executed
 mod Found
 mod Labelled
 mod Places
