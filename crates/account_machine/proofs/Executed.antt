@@ -122,7 +122,7 @@ module _ (h : History) (e : Execution) where
 
 -- ## The lock of an account that is changed
 
-same-lock : (change : Change) (id : ℕ) (salt : List ℕ) (now : ℕ) (a : Account) → (changed change id salt now a).lock ≡ a.lock
+pub same-lock : (change : Change) (id : ℕ) (salt : List ℕ) (now : ℕ) (a : Account) → (changed change id salt now a).lock ≡ a.lock
 same-lock Nothing id salt now a = refl
 same-lock (Password auth) id salt now a = without-by auth.password where
   without-by : (password : Option (List ℕ)) → (expired_without password (with_password id salt now auth a)).lock ≡ a.lock
@@ -133,7 +133,7 @@ same-lock (Add n factor) id salt now a = refl
 same-lock (Modify n factor) id salt now a = refl
 same-lock (DropFactor n) id salt now a = refl
 
-rule-kept : (attempts : Option ℕ) (time : Option Time) (unlocks : Bool) (rule : LockRule) → (is_some attempts || is_some time || unlocks) ≡ false
+pub rule-kept : (attempts : Option ℕ) (time : Option Time) (unlocks : Bool) (rule : LockRule) → (is_some attempts || is_some time || unlocks) ≡ false
     → record { attempts = attempts_after attempts rule.attempts; time = time_after time rule.time } ≡ rule
 rule-kept None None unlocks rule e = refl
 rule-kept None (Some t) unlocks rule e = absurd (cc)

@@ -1,5 +1,6 @@
 mod Attempts
 mod Executed
+mod Follows
 mod Found
 mod Labelled
 mod Places

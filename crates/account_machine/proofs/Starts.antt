@@ -5,6 +5,7 @@ use Rattle.account_rules.specs.declared.accounts.Account.{Account}
 use Rattle.account_rules.specs.declared.accounts.Settings.{Settings}
 use Rattle.account_history.specs.declared.entries.Opening.{Opening}
 use Rattle.account_history.specs.declared.entries.Log.{Log}
+use Rattle.account_history.specs.declared.entries.Start.{Start}
 use Rattle.account_history.specs.Histories.{From, history, latest_moment}
 use Rattle.factor_chain.specs.declared.credentials.Method.TheVariants as method
 use Rattle.account_machine.specs.Openings.{native_accounts, native_stored, opening_accounts, opening_start, plain_account}
@@ -67,3 +68,26 @@ rows-more extra i item rows new id row h is r e w n =
     ∙ ap (λ rest. new_rows (opening_accounts []) ++ rest) (sym (map-append _ (native_accounts 2 shorter) (plain_account (2 + length (take i extra)) item.user method.Native (native_stored item.password) false ∷ [])))
     ∙ ap (λ accounts. new_rows (opening_accounts [] ++ accounts)) (sym (native-more 2 shorter item))
     ∙ ap (λ (os : List Opening). new_rows (opening_accounts os)) (ap (λ (x : Opening). take i extra ++ x ∷ []) is ∙ sym (take_more extra i item h))
+
+-- another count of the keeper's faults at the start changes nothing that is kept
+pub stands-counted : (rows : List Row) (settings : Settings) (now : ℕ) (stamps : Stamps) (changes : ℕ) (log log' : Log) (count : ℕ)
+    → log.entries ≡ [] → Stands rows settings now stamps changes (history log)
+    → log' ≡ record { start = record log.start { count = count }; entries = [] } → Stands rows settings now stamps changes (history log')
+stands-counted rows settings now stamps changes log log' count e s f =
+    let P : Log → Type 0 = λ l. Stands rows settings now stamps changes (history l) in
+    let begun : Log = record { start = log.start; entries = [] } in
+    let same : log ≡ begun = λ i. record { start = log.start; entries = e i } in
+    let t : Stands rows settings now stamps changes (history begun) = subst P same s in
+    subst P (sym f) (record {
+      same_rows = t.same_rows ∙ rows-counted log.start count log.start.accounts;
+      same_settings = t.same_settings;
+      same_moment = t.same_moment;
+      same_stamps = record { same = t.same_stamps.same; most = t.same_stamps.most };
+      rising = t.rising;
+      few_labels = t.few_labels;
+      legal = tt;
+    }) where
+      rows-counted : (start : Start) (count : ℕ) (accounts : List Account)
+          → map (row_of (From start)) accounts ≡ map (row_of (From (record start { count = count }))) accounts
+      rows-counted start count [] = refl
+      rows-counted start count (a ∷ accounts) = ap (λ (rows : List Row). row_of (From start) a ∷ rows) (rows-counted start count accounts)

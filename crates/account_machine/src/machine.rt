@@ -1,7 +1,7 @@
 //! The account machine: one object that stands for a history of looks and attempts.
 
 use crate::looks::look_at;
-use crate::notes::{AttemptNote, LookNote, StartNote};
+use crate::notes::{AttemptNote, CountNote, LookNote, StartNote};
 use crate::openings::opening_rows;
 use crate::rows::{Row, attempt_on};
 use crate::stamps::Stamps;
@@ -65,6 +65,17 @@ impl Accounts {
             changes: 0,
             log: GhostValue::of(&StartNote { extra, settings }),
         })
+    }
+
+    /// Says how many faults the keeper of the accounts had at the start. It is for accounts whose history has no entry yet.
+    pub fn begin_with(&mut self, count: u64)
+        requires { self.old.entries ≡ [] }
+        ensures { self.new ≡ record { start = record self.old.start { count = count }; entries = [] } }
+    {
+        self.log = GhostValue::of(&CountNote {
+            log: &self.log,
+            count,
+        });
     }
 
     /// What is seen of an account, which has at most two further factors. The history has an entry of it once
