@@ -1,6 +1,5 @@
 -- The rows after a statement that was done are those of the history with it.
-use Rattle.std.proofs.Common.{◌≡◌, refl, ap, sym, ◌∙◌, ℕ, ◌+◌, ◌<◌, ◌≤◌, ◌==◌, List, [], ◌∷◌, ◌++◌, map, find, cond, Bool, true, false, ◌&&◌, if◌then◌else◌, ◌||◌, Option, Some, None, is_some, subst, arith, ne_eqb}
-use Rattle.std.proofs.lemmas.List.{map-append}
+use Rattle.std.proofs.Common.{◌≡◌, refl, ap, sym, ◌∙◌, ℕ, ◌<◌, ◌≤◌, List, [], ◌∷◌, map, find, cond, Bool, true, false, ◌&&◌, if◌then◌else◌, ◌||◌, Option, Some, None, is_some, subst, arith, ne_eqb}
 use Rattle.login_lock.specs.declared.LockRule.{LockRule}
 use Rattle.login_lock.specs.Lock.{tally_of}
 use Rattle.account_rules.specs.declared.accounts.Account.{Account}

@@ -1,16 +1,15 @@
 -- The rows after a statement that was done are those of the history with it, kind by kind.
-use Rattle.std.proofs.Common.{◌≡◌, refl, ap, sym, ◌∙◌, ℕ, suc, ◌+◌, ◌<◌, ◌≤◌, ◌==◌, List, [], ◌∷◌, ◌++◌, length, map, find, cond, Bool, true, false, ◌&&◌, Option, Some, None, All, IfSome, get_or, subst, arith, ne_eqb, eq-eqb}
+use Rattle.std.proofs.Common.{◌≡◌, refl, ap, sym, ◌∙◌, ℕ, ◌+◌, ◌<◌, ◌≤◌, ◌==◌, List, [], ◌∷◌, ◌++◌, map, Bool, true, false, ◌&&◌, Option, Some, arith, ne_eqb, eq-eqb}
 use Rattle.std.proofs.lemmas.List.{map-append}
 use Rattle.account_rules.specs.declared.accounts.Account.{Account}
-use Rattle.login_lock.specs.declared.LockRule.{LockRule}
 use Rattle.stmt_rules.specs.declared.statement.Options.{Options}
 use Rattle.stmt_rules.specs.declared.statement.Statement.{Statement}
 use Rattle.stmt_rules.specs.declared.statement.Statement.TheVariants.{Create, Alter, Drop, Flush, Grant, Revoke}
 use Rattle.account_history.specs.declared.entries.Entry.TheVariants.{Executed}
 use Rattle.account_history.specs.declared.entries.Execution.{Execution}
 use Rattle.account_history.specs.Effects.{altered, changed, created, effect_of, granted, revoked}
-use Rattle.account_history.specs.Failures.{clears_failures, failures}
-use Rattle.account_history.specs.Given.{Given, given, is_done}
+use Rattle.account_history.specs.Failures.{clears_failures}
+use Rattle.account_history.specs.Given.{given, is_done}
 use Rattle.account_history.specs.Histories.{History, ◌▹◌}
 use Rattle.account_history.specs.Naming.{has_id, is_named}
 use Rattle.account_history.specs.Numbers.{Rise, RiseTo}

@@ -1,5 +1,5 @@
 -- The account that a test finds, by its place and by what holds of all.
-use Rattle.std.proofs.Common.{◌≡◌, sym, ◌∙◌, ℕ, suc, ◌<◌, length, List, [], ◌∷◌, find, cond, Bool, true, false, Option, Some, None, IfSome, All, arith}
+use Rattle.std.proofs.Common.{◌≡◌, sym, ◌∙◌, suc, List, [], ◌∷◌, find, cond, Bool, true, false, Some, IfSome, All, arith}
 use Rattle.std.specs.List.{position}
 use Rattle.account_rules.specs.declared.accounts.Account.{Account}
 use Rattle.account_machine.specs.declared.rows.Row.{Row}

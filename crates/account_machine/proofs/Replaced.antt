@@ -1,5 +1,5 @@
 -- What is done at the place of the first that passes.
-use Rattle.std.proofs.Common.{◌≡◌, refl, ap, sym, ◌∙◌, ℕ, zero, suc, ◌+◌, ◌<◌, List, [], ◌∷◌, length, map, cond, find, Bool, true, false, not, Option, Some, None, option_map, slice_get, slice_set, slice_index_or, remove, nat_lt, arith, ltb-true, take, drop, ◌++◌, if◌then◌else◌, Result, Ok, Err, IfOk}
+use Rattle.std.proofs.Common.{◌≡◌, refl, ap, sym, ◌∙◌, ℕ, zero, suc, ◌+◌, ◌<◌, List, [], ◌∷◌, length, map, cond, find, Bool, true, false, not, Some, None, option_map, slice_set, slice_index_or, remove, nat_lt, arith, ltb-true, take, drop, ◌++◌, if◌then◌else◌, Result, Ok, Err, IfOk}
 use Rattle.std.specs.List.{position, position_or_len}
 use Rattle.std.proofs.lemmas.Option.{get_or_from_slice_get}
 use Rattle.lg_base.specs.declared.allocation.Memory.{Memory}

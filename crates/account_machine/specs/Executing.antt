@@ -1,5 +1,5 @@
 -- What a statement that isn't refused does to the rows that the machine keeps, and to those that the keeper tells.
-use Rattle.std.specs.Prelude.{◌≡◌, ℕ, ◌+◌, Bool, true, false, if◌then◌else◌, List, [], ◌∷◌, ◌++◌, map, Option, Some, None, IfSome}
+use Rattle.std.specs.Prelude.{ℕ, Bool, true, false, if◌then◌else◌, List, [], ◌∷◌, ◌++◌, map, Option, Some, None, IfSome}
 use Rattle.lg_outside.specs.Keeping.{put_row, remove_row}
 use Rattle.lg_outside.specs.declared.keepers.Row.{Row as Kept}
 use Rattle.account_keeper.specs.Record.{FitsRecord, record_text}
@@ -11,7 +11,6 @@ use Rattle.account_history.specs.Effects.{altered, created, granted, revoked, wi
 use Rattle.account_history.specs.Given.{Given}
 use Rattle.account_history.specs.Options.{clear_failures}
 use Rattle.account_history.specs.Targets.{is_named_by, target_of}
-use Rattle.account_machine.specs.Looks.{accounts_of}
 use Rattle.account_machine.specs.declared.executing.Numbers.{Numbers}
 use Rattle.account_machine.specs.declared.rows.Row.{Row}
 

@@ -1,4 +1,5 @@
 pub mod Agreeing
+pub mod Clearing
 pub mod Counting
 pub mod Executing
 pub mod Keeping

@@ -1,6 +1,7 @@
 //! A statement that isn't refused is done: the keeper is called, and then the rows change.
 
 ghost use Rattle.account_history.specs.Effects.{created, with_changed, without};
+ghost use Rattle.account_history.specs.Given.{given_after, given_in_change};
 ghost use Rattle.account_history.specs.Refusals.{auth_of, is_bad_password, misplaced, new_password, new_password_in, options_fit, options_of};
 ghost use Rattle.account_history.specs.Targets.{is_named_by, target_of};
 ghost use Rattle.account_keeper.specs.Record.{FitsRecord, record_text};
@@ -10,7 +11,7 @@ ghost use Rattle.account_machine.specs.Looks.{accounts_of};
 ghost use Rattle.account_machine.specs.Targets.{place_of_target};
 ghost use Rattle.lg_outside.specs.Faults.{Rose};
 ghost use Rattle.lg_outside.specs.Keeping.{put_row, remove_row};
-ghost use Rattle.std.specs.Prelude.{◌≡◌, ◌≤◌, ◌<◌, ◌^◌, ◌+◌, ◌++◌, ◌∷◌, [], length, map, true, false, is_some, IfSome, Some, None, IfOk, OnErr, if◌then◌else◌};
+ghost use Rattle.std.specs.Prelude.{◌≡◌, ◌≤◌, ◌<◌, ◌^◌, ◌+◌, ◌++◌, ◌∷◌, [], length, map, true, false, is_some, IfSome, Some, None, IfOk, OnErr, ℕ, if◌then◌else◌};
 
 use crate::effects::{begun_account, change, copy_account, grant, labels_of, revoke, set_password};
 use crate::keeping::{add, replace, take_away};
@@ -22,7 +23,7 @@ use lg_base::{Memory, Name};
 use lg_outside::Keeper;
 use login_lock::Tally;
 use std::alloc::Global;
-use stmt_rules::{Auth, FactorAuth, Options, Statement};
+use stmt_rules::{Auth, Change, FactorAuth, Options, Statement};
 
 /// The greatest numbers of an account and of a password that were ever given.
 #[derive(Clone, Copy, Debug, PartialEq, Eq)]
@@ -271,5 +272,46 @@ pub fn execute<K: Keeper>(
         Statement::Revoke { .. } => {
             change_target(alloc, rows, numbers, statement, salt, actor, now, keeper)
         }
+    }
+}
+
+/// The greatest numbers after a statement that is done, or want of memory at the end of their type.
+pub fn next_numbers(numbers: &Numbers, statement: &Statement) -> Result<Numbers, Memory>
+    ensures { IfOk result (λ next. (given_of next ≡ given_after (given_of numbers.now) statement.now)
+        × (numbers.now.account + 1 < 2 ^ 64) × (numbers.now.credential + 1 < 2 ^ 64)) }
+{
+    let account = numbers.account;
+    let credential = numbers.credential;
+    if account == u64::MAX || credential == u64::MAX {
+        return Err(Memory);
+    }
+    match statement {
+        Statement::Create { .. } => Ok(Numbers {
+            account: account + 1,
+            credential: credential + 1,
+        }),
+        Statement::Alter { change, .. } => Ok(Numbers {
+            account,
+            credential: next_credential(credential, change),
+        }),
+        Statement::Drop { .. } => Ok(*numbers),
+        Statement::Flush => Ok(*numbers),
+        Statement::Grant { .. } => Ok(*numbers),
+        Statement::Revoke { .. } => Ok(*numbers),
+    }
+}
+
+/// A new password takes the next number.
+fn next_credential(credential: u64, change: &Change) -> u64
+    requires { credential + 1 < 2 ^ 64 }
+    ensures { (account : ℕ) → record { account = account; credential = result } ≡ given_in_change (record { account = account; credential = credential }) change.now }
+{
+    match change {
+        Change::Nothing => credential,
+        Change::Password(_) => credential + 1,
+        Change::Discard => credential,
+        Change::Add(..) => credential,
+        Change::Modify(..) => credential,
+        Change::DropFactor(_) => credential,
     }
 }

@@ -8,6 +8,7 @@
 //! `factor_chain` and `login_lock`.
 #![tactic(auto)]
 
+mod clearing;
 mod effects;
 pub mod executing;
 mod keeping;

@@ -1,4 +1,4 @@
-use Rattle.std.proofs.Common.{◌≡◌, ◌∙◌, ap, sym, ℕ, ◌+◌, ◌<◌, ◌++◌, length, List, map, take, drop, true, slice_set, slice_index_or, arith}
+use Rattle.std.proofs.Common.{◌∙◌, ap, sym, ◌<◌, ◌++◌, length, List, map, take, drop, true, slice_set, slice_index_or, arith}
 use Rattle.std.proofs.Math.Numerals.{add-one}
 use Rattle.login_lock.specs.declared.Tally.{Tally}
 use Rattle.account_machine.specs.Executing.{row_with}

@@ -1,8 +1,5 @@
-use Rattle.std.proofs.Common.{◌≡◌, ◌∙◌, ap, sym, subst, List, []}
-use Rattle.account_history.specs.declared.entries.Entry.{Entry}
+use Rattle.std.proofs.Common.{◌∙◌, ap}
 use Rattle.account_history.specs.declared.entries.Log.{Log}
-use Rattle.account_history.specs.Histories.{after_entries, From, history}
-use Rattle.account_machine.specs.Stands.{Stands}
 use Rattle.account_machine.proofs.Starts.{stands-counted}
 use Rattle.account_machine.proofs.machine.Accounts.begin_with.Goals as goal
 
