@@ -92,14 +92,14 @@ revoked privileges a = record a {
   password_admin = a.password_admin && not privileges.password_admin;
 }
 
--- the accounts with the first that passes changed, and without it
-abbrev pub with_changed : (Account → Bool) → (Account → Account) → List Account → List Account
+-- a list with the first that passes changed, and without it
+abbrev pub with_changed : {A : Type 0} → (A → Bool) → (A → A) → List A → List A
 with_changed test change [] = []
-with_changed test change (a ∷ accounts) = cond (test a) (change a ∷ accounts) (a ∷ with_changed test change accounts)
+with_changed test change (x ∷ xs) = cond (test x) (change x ∷ xs) (x ∷ with_changed test change xs)
 
-abbrev pub without : (Account → Bool) → List Account → List Account
+abbrev pub without : {A : Type 0} → (A → Bool) → List A → List A
 without test [] = []
-without test (a ∷ accounts) = cond (test a) accounts (a ∷ without test accounts)
+without test (x ∷ xs) = cond (test x) xs (x ∷ without test xs)
 
 abbrev pub effect_of : Statement → Given → (actor : ℕ) → (salt : List ℕ) → (now : ℕ) → List Account → List Account
 effect_of (Create name auth factors options) given actor salt now accounts =

@@ -11,6 +11,7 @@ use Rattle.account_rules.specs.declared.accounts.Settings.{Settings}
 use Rattle.account_history.specs.Answers.{attempt_reply, look_of}
 use Rattle.account_history.specs.declared.entries.Who.{Who}
 use Rattle.factor_chain.specs.declared.credentials.Look.{Look}
+use Rattle.account_machine.specs.declared.executing.Numbers.{Numbers}
 use Rattle.account_machine.specs.declared.stamps.Stamps.{Stamps}
 use Rattle.account_machine.specs.Stands.{Stands}
 use Rattle.account_machine.specs.Looks.{account_at, accounts_of}
@@ -101,33 +102,39 @@ pub max-moved : (m r k : ℕ) → m ≡ k → max m r ≡ max r k
 max-moved m r k e = omega arith
 
 -- what stands after an attempt
-pub stands-attempted : (log : Log) (t : Attempt) (rows new : List Row) (settings : Settings) (before now : ℕ) (stamps : Stamps) (changes : ℕ) (log' : Log)
-    → Stands rows settings before stamps changes (history log) → log' ≡ noted log (Attempted t) → new ≡ rows_of (history log ▹ Attempted t)
+pub stands-attempted : (log : Log) (t : Attempt) (rows new : List Row) (settings : Settings) (before now : ℕ) (numbers : Numbers) (stamps : Stamps) (changes : ℕ) (log' : Log)
+    → Stands rows settings before numbers stamps changes (history log) → log' ≡ noted log (Attempted t) → new ≡ rows_of (history log ▹ Attempted t)
     → now ≡ max before t.reading
-    → t.reply ≡ attempt_reply (history log) t.user t.evidences t.flags t.reading → Stands new settings now stamps changes (history log')
-stands-attempted log t rows new settings before now stamps changes log' s e r m a =
-    let P : History → Type 0 = λ h. Stands new settings now stamps changes h in
+    → t.reply ≡ attempt_reply (history log) t.user t.evidences t.flags t.reading → Stands new settings now numbers stamps changes (history log')
+stands-attempted log t rows new settings before now numbers stamps changes log' s e r m a =
+    let P : History → Type 0 = λ h. Stands new settings now numbers stamps changes h in
     subst P (sym (ap history e ∙ history-noted log (Attempted t))) (record {
       same_rows = r;
       same_settings = s.same_settings;
       same_moment = m ∙ max-moved before t.reading (moment (history log)) s.same_moment;
       same_stamps = record { same = s.same_stamps.same; most = s.same_stamps.most };
+      same_numbers = s.same_numbers;
       rising = s.rising;
+      up_to = s.up_to;
       few_labels = s.few_labels;
+      set_past = s.set_past;
       legal = (s.legal, a);
     })
 
 -- what stands after a look
-pub stands-observed : (log : Log) (who : Who) (look : Look) (rows : List Row) (settings : Settings) (now : ℕ) (stamps : Stamps) (changes : ℕ) (log' : Log)
-    → Stands rows settings now stamps changes (history log) → log' ≡ noted log (Observed who look) → look ≡ look_of (history log) who → Stands rows settings now stamps changes (history log')
-stands-observed log who look rows settings now stamps changes log' s e a =
-    let P : History → Type 0 = λ h. Stands rows settings now stamps changes h in
+pub stands-observed : (log : Log) (who : Who) (look : Look) (rows : List Row) (settings : Settings) (now : ℕ) (numbers : Numbers) (stamps : Stamps) (changes : ℕ) (log' : Log)
+    → Stands rows settings now numbers stamps changes (history log) → log' ≡ noted log (Observed who look) → look ≡ look_of (history log) who → Stands rows settings now numbers stamps changes (history log')
+stands-observed log who look rows settings now numbers stamps changes log' s e a =
+    let P : History → Type 0 = λ h. Stands rows settings now numbers stamps changes h in
     subst P (sym (ap history e ∙ history-noted log (Observed who look))) (record {
       same_rows = s.same_rows ∙ rows-observed (history log) who look;
       same_settings = s.same_settings;
       same_moment = s.same_moment;
       same_stamps = record { same = s.same_stamps.same; most = s.same_stamps.most };
+      same_numbers = s.same_numbers;
       rising = s.rising;
+      up_to = s.up_to;
       few_labels = s.few_labels;
+      set_past = s.set_past;
       legal = (s.legal, a);
     })

@@ -1,8 +1,12 @@
 mod Attempts
+mod Executed
+mod Follows
+mod Found
 mod Labelled
 mod Places
 mod Raised
 mod Refusing
+mod Replaced
 mod Seen
 mod Starts
 mod Written

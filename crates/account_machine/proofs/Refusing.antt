@@ -1,5 +1,5 @@
 -- A refusal that doesn't hold is passed over.
-use Rattle.std.proofs.Common.{◌≡◌, refl, ap, Bool, false, Option, None}
+use Rattle.std.proofs.Common.{◌≡◌, ap, Bool, false, Option, None}
 use Rattle.lg_base.specs.declared.errors.Code.{Code}
 use Rattle.account_history.specs.Naming.{or_else}
 use Rattle.account_history.specs.Refusals.{when}

@@ -1,18 +1,24 @@
 -- The accounts of a start, without entries.
-use Rattle.std.proofs.Common.{◌≡◌, refl, ap, sym, ◌∙◌, ℕ, ◌+◌, ◌<◌, max, List, [], ◌∷◌, ◌++◌, length, map, subst, arith, false, take, get_or, None, length-take-le}
+use Rattle.std.proofs.Common.{◌≡◌, refl, ap, sym, ◌∙◌, ℕ, ◌+◌, ◌<◌, max, List, [], ◌∷◌, ◌++◌, length, map, subst, arith, false, take, get_or, None, All, length-take-le}
 use Rattle.std.proofs.lemmas.List.{map-append, take_more}
 use Rattle.account_rules.specs.declared.accounts.Account.{Account}
 use Rattle.account_rules.specs.declared.accounts.Settings.{Settings}
 use Rattle.account_history.specs.declared.entries.Opening.{Opening}
 use Rattle.account_history.specs.declared.entries.Log.{Log}
+use Rattle.account_history.specs.declared.entries.Start.{Start}
 use Rattle.account_history.specs.Histories.{From, history, latest_moment}
 use Rattle.factor_chain.specs.declared.credentials.Method.TheVariants as method
-use Rattle.account_machine.specs.Openings.{native_accounts, native_stored, opening_accounts, opening_start, plain_account}
+use Rattle.account_machine.specs.Openings.{native_accounts, native_stored, opening_accounts, opening_start, plain_account, root_account}
 use Rattle.account_machine.specs.Rows.{Rise, new_rows, row_of}
 use Rattle.account_machine.specs.Counting.{stamp_in}
+use Rattle.account_machine.specs.declared.executing.Numbers.{Numbers}
 use Rattle.account_machine.specs.declared.stamps.Stamps.{Stamps}
 use Rattle.account_machine.specs.Stands.{Stands}
 use Rattle.account_machine.specs.declared.rows.Row.{Row}
+use Rattle.std.proofs.lemmas.List.Elements.{All-cons}
+use Rattle.account_history.specs.Given.{greatest_given}
+use Rattle.account_history.proofs.Numbered.{numbers-rise}
+use Rattle.account_machine.specs.Pasts.{HasSetPast}
 use Rattle.account_machine.proofs.Labelled.{opening-few}
 
 -- the native accounts with one more
@@ -32,22 +38,46 @@ native-rise : (low id : ℕ) (xs : List Opening) → low < id → Rise low (nati
 native-rise low id [] h = tt
 native-rise low id (x ∷ xs) h = (h, native-rise id (id + 1) xs (omega arith))
 
+-- the greatest numbers of native accounts behind a lower one
+native-given : (low : ℕ) (xs : List Opening)
+    → (max low (greatest_given (native_accounts (low + 1) xs)).account ≡ low + length xs)
+    × (max low (greatest_given (native_accounts (low + 1) xs)).credential ≡ low + length xs)
+native-given low [] = (omega arith, omega arith)
+native-given low (x ∷ xs) =
+    let more = native-given (low + 1) xs in let a = more.0 in let c = more.1 in
+    (omega (arith, a), omega (arith, c))
+
+native-set : (id : ℕ) (xs : List Opening) → All HasSetPast (native_accounts id xs)
+native-set id [] = λ k d h. absurd (omega arith)
+native-set id (x ∷ xs) = All-cons HasSetPast _ (native_accounts (id + 1) xs) (λ k d h. absurd (omega arith)) (native-set (id + 1) xs)
+
+opening-set : (extra : List Opening) → All HasSetPast (opening_accounts extra)
+opening-set extra = All-cons HasSetPast root_account (native_accounts 2 extra) (λ k d h. absurd (omega arith)) (native-set 2 extra)
+
 rows-new : (log : Log) (accounts : List Account) → new_rows accounts ≡ map (row_of (From log.start)) accounts
 rows-new log [] = refl
 rows-new log (account ∷ accounts) = ap (λ (rows : List Row). row_of (From log.start) account ∷ rows) (rows-new log accounts)
 
-pub stands-opening : (extra : List Opening) (settings : Settings) (rows : List Row) (stamps : Stamps) (log : Log) → rows ≡ new_rows (opening_accounts extra)
-    → ((user : List ℕ) → stamp_in stamps user ≡ 0) → log ≡ record { start = opening_start extra settings; entries = [] } → Stands rows settings 0 stamps 0 (history log)
-stands-opening extra settings rows stamps log r z e =
-    let P : Log → Type 0 = λ l. Stands rows settings 0 stamps 0 (history l) in
+pub stands-opening : (extra : List Opening) (settings : Settings) (rows : List Row) (numbers : Numbers) (stamps : Stamps) (log : Log) → rows ≡ new_rows (opening_accounts extra)
+    → ((user : List ℕ) → stamp_in stamps user ≡ 0)
+    → numbers.account ≡ length extra + 1 → numbers.credential ≡ length extra + 1 → log ≡ record { start = opening_start extra settings; entries = [] } → Stands rows settings 0 numbers stamps 0 (history log)
+stands-opening extra settings rows numbers stamps log r z m n e =
+    let P : Log → Type 0 = λ l. Stands rows settings 0 numbers stamps 0 (history l) in
     let first : Log = record { start = opening_start extra settings; entries = [] } in
     subst P (sym e) (record {
       same_rows = r ∙ rows-new first (opening_accounts extra);
       same_settings = refl;
       same_moment = sym (ap (λ (n : ℕ). max 0 n) (native-moment 2 extra));
       same_stamps = record { same = z; most = λ user. omega arith };
+      same_numbers =
+          let a = (native-given 1 extra).0 in let c = (native-given 1 extra).1 in
+          let account : numbers.account ≡ max 1 (greatest_given (native_accounts 2 extra)).account = omega (arith, a, m) in
+          let credential : numbers.credential ≡ max 1 (greatest_given (native_accounts 2 extra)).credential = omega (arith, c, n) in
+          λ i. record { account = account i; credential = credential i };
       rising = (omega arith, native-rise 1 2 extra (omega arith));
+      up_to = numbers-rise (From (opening_start extra settings)) (omega arith, native-rise 1 2 extra (omega arith));
       few_labels = opening-few extra;
+      set_past = opening-set extra;
       legal = tt;
     })
 
@@ -67,3 +97,29 @@ rows-more extra i item rows new id row h is r e w n =
     ∙ ap (λ rest. new_rows (opening_accounts []) ++ rest) (sym (map-append _ (native_accounts 2 shorter) (plain_account (2 + length (take i extra)) item.user method.Native (native_stored item.password) false ∷ [])))
     ∙ ap (λ accounts. new_rows (opening_accounts [] ++ accounts)) (sym (native-more 2 shorter item))
     ∙ ap (λ (os : List Opening). new_rows (opening_accounts os)) (ap (λ (x : Opening). take i extra ++ x ∷ []) is ∙ sym (take_more extra i item h))
+
+-- another count of the keeper's faults at the start changes nothing that is kept
+pub stands-counted : (rows : List Row) (settings : Settings) (now : ℕ) (numbers : Numbers) (stamps : Stamps) (changes : ℕ) (log log' : Log) (count : ℕ)
+    → log.entries ≡ [] → Stands rows settings now numbers stamps changes (history log)
+    → log' ≡ record { start = record log.start { count = count }; entries = [] } → Stands rows settings now numbers stamps changes (history log')
+stands-counted rows settings now numbers stamps changes log log' count e s f =
+    let P : Log → Type 0 = λ l. Stands rows settings now numbers stamps changes (history l) in
+    let begun : Log = record { start = log.start; entries = [] } in
+    let same : log ≡ begun = λ i. record { start = log.start; entries = e i } in
+    let t : Stands rows settings now numbers stamps changes (history begun) = subst P same s in
+    subst P (sym f) (record {
+      same_rows = t.same_rows ∙ rows-counted log.start count log.start.accounts;
+      same_settings = t.same_settings;
+      same_moment = t.same_moment;
+      same_stamps = record { same = t.same_stamps.same; most = t.same_stamps.most };
+      same_numbers = t.same_numbers;
+      rising = t.rising;
+      up_to = t.up_to;
+      few_labels = t.few_labels;
+      set_past = t.set_past;
+      legal = tt;
+    }) where
+      rows-counted : (start : Start) (count : ℕ) (accounts : List Account)
+          → map (row_of (From start)) accounts ≡ map (row_of (From (record start { count = count }))) accounts
+      rows-counted start count [] = refl
+      rows-counted start count (a ∷ accounts) = ap (λ (rows : List Row). row_of (From start) a ∷ rows) (rows-counted start count accounts)

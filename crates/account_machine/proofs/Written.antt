@@ -47,7 +47,7 @@ rise-differ low (x ∷ xs) (suc i) zero a b r e f d =
 rise-differ low (x ∷ xs) (suc i) (suc j) a b r e f d = rise-differ x.id xs i j a b r.1 e f (λ n. d (ap (λ k. suc k) n))
 
 -- a row is the same where its failures are
-row-same : (h k : History) (account : Account) → failures k account.id ≡ failures h account.id → row_of h account ≡ row_of k account
+pub row-same : (h k : History) (account : Account) → failures k account.id ≡ failures h account.id → row_of h account ≡ row_of k account
 row-same h k account e = λ i. record { account = account; tally = tally_of account.lock (sym e i) }
 
 -- the row of the account in force, written

@@ -1,8 +1,12 @@
 pub mod Agreeing
+pub mod Clearing
 pub mod Counting
+pub mod Executing
+pub mod Keeping
 pub mod Labels
 pub mod Looks
 pub mod Openings
 pub mod Pasts
 pub mod Rows
 pub mod Stands
+pub mod Targets

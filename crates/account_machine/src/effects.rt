@@ -46,7 +46,7 @@ pub fn copy_account(alloc: Global, account: &Account) -> Result<Account, Memory>
 }
 
 /// What CREATE USER begins with.
-fn begun_account(alloc: Global, id: u64, name: &Name) -> Result<Account, Memory>
+pub fn begun_account(alloc: Global, id: u64, name: &Name) -> Result<Account, Memory>
     ensures { IfOk result (λ made. made ≡ begun_account id name.now) }
 {
     Ok(Account {
@@ -114,7 +114,7 @@ fn secondary_after(
 }
 
 /// Gives an account a new password, with a number of its own.
-fn set_password(
+pub fn set_password(
     alloc: Global,
     account: &mut Account,
     auth: &Auth,
@@ -215,7 +215,7 @@ fn drop_label(alloc: Global, labels: &mut Items<Bytes>, n: u8)
 }
 
 /// The labels of further factors.
-fn labels_of(alloc: Global, factors: &[FactorAuth]) -> Result<Items<Bytes>, Memory>
+pub fn labels_of(alloc: Global, factors: &[FactorAuth]) -> Result<Items<Bytes>, Memory>
     ensures { IfOk result (λ labels. labels ≡ map (λ factor. factor.label) factors.now) }
 {
     let mut labels = Items::new(alloc);

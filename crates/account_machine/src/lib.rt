@@ -8,7 +8,10 @@
 //! `factor_chain` and `login_lock`.
 #![tactic(auto)]
 
+mod clearing;
 mod effects;
+pub mod executing;
+mod keeping;
 mod looks;
 pub mod machine;
 mod notes;
@@ -18,6 +21,7 @@ mod passwords;
 mod refusals;
 pub mod rows;
 pub mod stamps;
+mod targets;
 #[cfg(test)]
 mod tests;
 

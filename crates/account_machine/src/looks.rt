@@ -24,7 +24,7 @@ fn find_named(rows: &[Row], name: &Name) -> Option<usize>
 }
 
 /// The place of the account with this number.
-fn find_numbered(rows: &[Row], id: u64) -> Option<usize>
+pub fn find_numbered(rows: &[Row], id: u64) -> Option<usize>
     ensures { result ≡ place_numbered rows.now id }
 {
     rows.iter().position(|row| row.account.id == id)
@@ -123,7 +123,7 @@ pub fn look_at(alloc: Global, rows: &[Row], stamps: &Stamps, who: &Who) -> Resul
 }
 
 /// The account at a place.
-fn account_at(rows: &[Row], place: Option<usize>) -> Option<&Account>
+pub fn account_at(rows: &[Row], place: Option<usize>) -> Option<&Account>
     ensures { option_copied result ≡ account_at_place rows.now place }
 {
     match place {

@@ -1,7 +1,8 @@
 //! The account machine: one object that stands for a history of looks and attempts.
 
+use crate::executing::Numbers;
 use crate::looks::look_at;
-use crate::notes::{AttemptNote, LookNote, StartNote};
+use crate::notes::{AttemptNote, CountNote, LookNote, StartNote};
 use crate::openings::opening_rows;
 use crate::rows::{Row, attempt_on};
 use crate::stamps::Stamps;
@@ -19,6 +20,8 @@ pub struct Accounts {
     rows: Vec<Row>,
     settings: Settings,
     moment: u64,
+    /// The greatest numbers that were ever given.
+    numbers: Numbers,
     stamps: Stamps,
     /// How often a stamp was raised: no stamp is greater.
     changes: u64,
@@ -34,7 +37,7 @@ impl Model for Accounts {
 
     ghost view = { λ a. a.log.value };
 
-    ghost invariant = { λ a. Stands a.rows.items a.settings a.moment a.stamps a.changes (history a.log.value) };
+    ghost invariant = { λ a. Stands a.rows.items a.settings a.moment a.numbers a.stamps a.changes (history a.log.value) };
 }
 
 impl Accounts {
@@ -57,14 +60,30 @@ impl Accounts {
         ensures { IfOk result (λ made. made ≡ record { start = opening_start extra.now settings; entries = [] }) }
     {
         let rows = opening_rows(alloc, extra)?;
+        let last = extra.len() as u64 + 1;
         Ok(Accounts {
             rows,
             settings,
             moment: 0,
+            numbers: Numbers {
+                account: last,
+                credential: last,
+            },
             stamps: Stamps::new(alloc),
             changes: 0,
             log: GhostValue::of(&StartNote { extra, settings }),
         })
+    }
+
+    /// Says how many faults the keeper of the accounts had at the start. It is for accounts whose history has no entry yet.
+    pub fn begin_with(&mut self, count: u64)
+        requires { self.old.entries ≡ [] }
+        ensures { self.new ≡ record { start = record self.old.start { count = count }; entries = [] } }
+    {
+        self.log = GhostValue::of(&CountNote {
+            log: &self.log,
+            count,
+        });
     }
 
     /// What is seen of an account, which has at most two further factors. The history has an entry of it once

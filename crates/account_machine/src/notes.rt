@@ -21,6 +21,17 @@ impl<'a> Denotes<Log> for StartNote<'a> {
     ghost denoted = { λ n. record { start = opening_start n.extra.now n.settings; entries = [] } };
 }
 
+/// A history without entries, whose start has this count of faults of the keeper.
+#[derive(Drop)]
+pub struct CountNote<'a> {
+    pub log: &'a GhostValue<Log>,
+    pub count: u64,
+}
+
+impl<'a> Denotes<Log> for CountNote<'a> {
+    ghost denoted = { λ n. record { start = record (n.log.now.value).start { count = n.count }; entries = [] } };
+}
+
 /// A history with one look more.
 #[derive(Drop)]
 pub struct LookNote<'a> {

@@ -1,4 +1,4 @@
-use Rattle.std.proofs.Common.{◌≡◌, ◌∙◌, ap, sym, refl, List, ℕ, false}
+use Rattle.std.proofs.Common.{◌≡◌, ◌∙◌, ap, sym, List, ℕ, false}
 use Rattle.account_history.specs.Passwords.{identified, method_after, password_of, recorded, stored_of}
 use Rattle.account_rules.specs.declared.accounts.Account.{Account}
 use Rattle.factor_chain.specs.declared.credentials.Method.{Method}

@@ -1,4 +1,4 @@
-use Rattle.std.proofs.Common.{◌≡◌, ◌∙◌, ap, ℕ, Bool, List}
+use Rattle.std.proofs.Common.{◌∙◌, ap, ℕ, Bool, List}
 use Rattle.account_history.specs.Refusals.{history_limit, reuse_limit}
 use Rattle.factor_chain.specs.declared.credentials.PastRecord.{PastRecord}
 use Rattle.password_history.specs.Reuse.{forbidden_by, used_of}

@@ -1,4 +1,4 @@
-use Rattle.std.proofs.Common.{◌≡◌, ◌∙◌, sym}
+use Rattle.std.proofs.Common.{◌∙◌, sym}
 use Rattle.account_machine.proofs.Refusing.{passed}
 use Rattle.account_machine.proofs.refusals.refusal_of_change.Goals as goal
 

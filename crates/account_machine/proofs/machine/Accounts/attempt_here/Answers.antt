@@ -12,7 +12,7 @@ invariant_of-self c =
     let h = history c.self.inside.log.value in
     let now : c.max-now.result ≡ max c.args.reading (moment (history c.self.inside.log.value)) =
     c.max-now.ensures ∙ max-moved c.self.inside.moment c.args.reading (moment (history c.self.inside.log.value)) c.self.invariant.same_moment in
-    stands-attempted c.self.inside.log.value t c.self.inside.rows.items c.attempt_on-reply.new.rows.items c.self.inside.settings c.self.inside.moment c.max-now.result c.self.inside.stamps c.self.inside.changes c.of.result.value
+    stands-attempted c.self.inside.log.value t c.self.inside.rows.items c.attempt_on-reply.new.rows.items c.self.inside.settings c.self.inside.moment c.max-now.result c.self.inside.numbers c.self.inside.stamps c.self.inside.changes c.of.result.value
     c.self.invariant c.of.ensures
     (c.attempt_on-reply.ensures.rows h t c.self.invariant.same_rows c.self.invariant.rising (sym now) refl refl refl)
     c.max-now.ensures

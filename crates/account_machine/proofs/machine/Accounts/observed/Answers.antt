@@ -7,5 +7,5 @@ use Rattle.account_machine.proofs.machine.Accounts.observed.Goals as goal
 
 pub invariant_of-self : goal.invariant_of-self
 invariant_of-self c =
-    stands-observed c.self.inside.log.value c.args.who.now c.args.look.now c.self.inside.rows.items c.self.inside.settings c.self.inside.moment c.self.inside.stamps c.self.inside.changes c.of.result.value
+    stands-observed c.self.inside.log.value c.args.who.now c.args.look.now c.self.inside.rows.items c.self.inside.settings c.self.inside.moment c.self.inside.numbers c.self.inside.stamps c.self.inside.changes c.of.result.value
     c.self.invariant c.of.ensures (c.requires ∙ ap (λ (l : Log). look_of (history l) c.args.who.now) (sym c.self.view_is))
