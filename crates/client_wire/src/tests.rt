@@ -53,23 +53,7 @@ fn client(rt: &impl Abort, alloc: Global) -> Result<ClientEnd, Memory>
     ClientEnd::new(alloc, b"nat", &secrets, &options, true)
 }
 
-/// Gives a client bytes in two pieces, where the second may come to nothing, and answers how its login ended.
-fn give(
-    alloc: Global,
-    client: &mut ClientEnd,
-    first: &[u8],
-    second: &[u8],
-    out: &mut Out,
-) -> Result<Option<LoginEnd>, Memory>
-    requires { IsWaiting (standing_of client.old).at }
-{
-    match client.get(alloc, first, out)? {
-        Some(end) => Ok(Some(end)),
-        None => client.get(alloc, second, out),
-    }
-}
-
-/// Gives a new client bytes that are cut at a place, and compares how its login ended and what it wrote.
+/// Gives a new client bytes in two pieces, cut at a place, and compares how its login ended and what it wrote.
 fn check_cut(
     rt: &impl Abort,
     alloc: Global,
@@ -81,98 +65,92 @@ fn check_cut(
     let (first, second) = bytes.split_at(cut.min(bytes.len()));
     let mut client = client(rt, alloc)?;
     let mut out = Out::new(alloc);
-    let ended = give(alloc, &mut client, first, second, &mut out)?;
-    assert_eq!(rt; ended, end);
-    assert_eq!(rt; out.as_slice(), written);
+    let ended = match client.get(alloc, first, &mut out)? {
+        Some(end) => Some(end),
+        None => client.get(alloc, second, &mut out)?,
+    };
+    assert_eq!(rt; ended, end, "cut at {cut}");
+    assert_eq!(rt; out.as_slice(), written, "cut at {cut}");
     Ok(())
 }
 
-#[test]
-fn a_greeting_is_answered_wherever_it_is_cut(rt: HostRuntime) -> Result<(), Fail> {
-    let alloc = rt.alloc();
-    let bytes = packets(alloc, &[(0, GREETING)])?;
-    for cut in 0..=bytes.as_slice().len() {
-        check_cut(&rt, alloc, bytes.as_slice(), cut, None, ANSWER)?;
+/// The same at every place, and without a cut.
+fn check(
+    rt: &impl Abort,
+    alloc: Global,
+    bytes: &[u8],
+    end: Option<LoginEnd>,
+    written: &[u8],
+) -> Result<(), Memory> {
+    for cut in 0..=bytes.len() {
+        check_cut(rt, alloc, bytes, cut, end, written)?;
     }
     Ok(())
 }
 
-#[test]
-fn a_login_ends_at_ok_and_at_err(rt: HostRuntime) -> Result<(), Fail> {
-    let alloc = rt.alloc();
-    let opened = packets(alloc, &[(0, GREETING), (2, OK)])?;
-    let refused = packets(alloc, &[(0, GREETING), (2, ERR)])?;
-    for cut in [0, 3, 90, 200] {
-        let end = Some(LoginEnd::Opened);
-        check_cut(&rt, alloc, opened.as_slice(), cut, end, ANSWER)?;
-        let end = Some(LoginEnd::Refused { number: 1045 });
-        check_cut(&rt, alloc, refused.as_slice(), cut, end, ANSWER)?;
-    }
-    let turned_away = packets(alloc, &[(0, ERR)])?;
-    let end = Some(LoginEnd::Refused { number: 1045 });
-    check_cut(&rt, alloc, turned_away.as_slice(), 5, end, b"")?;
-    Ok(())
-}
+/// A wrong sequence id in place of the first packet's, and of the second one's behind the greeting's 83 bytes.
+const FIRST_ID: FrameFault = FrameFault::OutOfOrder {
+    at: 0,
+    want: 0,
+    got: 1,
+};
 
-#[test]
-fn a_wrong_sequence_id_ends_the_login(rt: HostRuntime) -> Result<(), Fail> {
-    let alloc = rt.alloc();
-    let first = packets(alloc, &[(1, GREETING)])?;
-    let fault = FrameFault::OutOfOrder {
-        at: 0,
-        want: 0,
-        got: 1,
-    };
-    check_cut(
-        &rt,
-        alloc,
-        first.as_slice(),
-        4,
-        Some(LoginEnd::Framing(fault)),
-        b"",
-    )?;
-    let second = packets(alloc, &[(0, GREETING), (1, OK)])?;
-    let at = GREETING.len() as u64 + 4;
-    let fault = FrameFault::OutOfOrder {
-        at,
-        want: 2,
-        got: 1,
-    };
-    check_cut(
-        &rt,
-        alloc,
-        second.as_slice(),
-        4,
-        Some(LoginEnd::Framing(fault)),
+const SECOND_ID: FrameFault = FrameFault::OutOfOrder {
+    at: 83,
+    want: 2,
+    got: 1,
+};
+
+const REFUSED: LoginEnd = LoginEnd::Refused { number: 1045 };
+
+/// The packets of a server, how the login has then ended, if it has, and what the client wrote.
+type Exchange = (
+    &'static [(u8, &'static [u8])],
+    Option<LoginEnd>,
+    &'static [u8],
+);
+
+/// Bytes behind the end are left, also where they are out of order.
+const EXCHANGES: &[Exchange] = &[
+    (&[(0, GREETING)], None, ANSWER),
+    (&[(0, GREETING), (2, OK)], Some(LoginEnd::Opened), ANSWER),
+    (&[(0, GREETING), (2, ERR)], Some(REFUSED), ANSWER),
+    (&[(0, ERR)], Some(REFUSED), b""),
+    (&[(1, GREETING)], Some(LoginEnd::Framing(FIRST_ID)), b""),
+    (
+        &[(0, GREETING), (1, OK)],
+        Some(LoginEnd::Framing(SECOND_ID)),
         ANSWER,
-    )?;
+    ),
+    (
+        &[(0, GREETING), (2, OK), (3, ERR), (9, ERR)],
+        Some(LoginEnd::Opened),
+        ANSWER,
+    ),
+    (
+        &[(0, GREETING), (2, OK), (9, ERR)],
+        Some(LoginEnd::Opened),
+        ANSWER,
+    ),
+];
+
+#[test]
+fn logins_go_alike_wherever_bytes_are_cut(rt: HostRuntime) -> Result<(), Fail> {
+    let alloc = rt.alloc();
+    for (sent, end, written) in EXCHANGES {
+        let bytes = packets(alloc, sent)?;
+        check(&rt, alloc, bytes.as_slice(), *end, written)?;
+    }
     Ok(())
 }
 
+/// The header of a payload that is too long is enough.
 #[test]
 fn a_payload_that_is_too_long_ends_the_login(rt: HostRuntime) -> Result<(), Fail> {
     let alloc = rt.alloc();
-    let fault = FrameFault::TooLarge { at: 0 };
-    check_cut(
-        &rt,
-        alloc,
-        b"\x01\x00\x10\x00",
-        2,
-        Some(LoginEnd::Framing(fault)),
-        b"",
-    )?;
-    check_cut(&rt, alloc, b"\x00\x00\x10\x00", 2, None, b"")?;
-    Ok(())
-}
-
-#[test]
-fn bytes_behind_the_end_are_left(rt: HostRuntime) -> Result<(), Fail> {
-    let alloc = rt.alloc();
-    let bytes = packets(alloc, &[(0, GREETING), (2, OK), (3, ERR), (9, ERR)])?;
-    let end = Some(LoginEnd::Opened);
-    check_cut(&rt, alloc, bytes.as_slice(), 0, end, ANSWER)?;
-    let faulty = packets(alloc, &[(0, GREETING), (2, OK), (9, ERR)])?;
-    check_cut(&rt, alloc, faulty.as_slice(), 0, end, ANSWER)?;
+    let fault = LoginEnd::Framing(FrameFault::TooLarge { at: 0 });
+    check(&rt, alloc, b"\x01\x00\x10\x00", Some(fault), b"")?;
+    check(&rt, alloc, b"\x00\x00\x10\x00", None, b"")?;
     Ok(())
 }
 

@@ -1,6 +1,5 @@
-//! Runs of `login` over links in memory: what is printed, the status, and what was written.
-
-ghost use Rattle.std.specs.Prelude.{◌≡◌, IfOk, false};
+//! Runs of `login` over links in memory: what is printed, the status, and what was written. Words that are no login
+//! but can stand on a command line are shown by the runs of tests/replay.
 
 use crate::tool::run_tool;
 use lg_base::{Bytes, Items, Memory, Out};
@@ -36,8 +35,18 @@ const NAT: &[&str] = &[
     "sesame",
 ];
 
-fn calls(alloc: Global, numbers: &[u64]) -> Result<Items<u64>, Memory> {
-    Ok(Items::from_vec(Vec::from_slice(alloc, numbers)?))
+/// Packets of a server: their sequence ids and payloads.
+type Sent = &'static [(u8, &'static [u8])];
+
+/// A server that asks for the password and lets the client in.
+const ASKS_FOR_IT: Sent = &[(0, GREETING), (2, FULL), (4, OK)];
+
+/// What a run answered and printed, and what it wrote to the server.
+#[derive(Drop)]
+struct Ran {
+    status: u8,
+    printed: Bytes,
+    written: Bytes,
 }
 
 fn strings(alloc: Global, words: &[&str]) -> Result<Vec<String>, Memory> {
@@ -48,41 +57,43 @@ fn strings(alloc: Global, words: &[&str]) -> Result<Vec<String>, Memory> {
     Ok(held)
 }
 
-/// A link whose peer sends packets with these ids and payloads.
-fn link(
-    alloc: Global,
-    local: bool,
-    sent: &[(u8, &[u8])],
-    failing: &[u64],
-) -> Result<MemoryLink, Memory>
-    ensures { IfOk result (λ link. link.finished ≡ false) }
-{
+fn packets(alloc: Global, sent: &[(u8, &[u8])]) -> Result<Bytes, Memory> {
     let mut out = Out::new(alloc);
     for (id, payload) in sent {
         write_packet(*id, payload, &mut out)?;
     }
-    MemoryLink::new(alloc, out.into_bytes(), 4096, local, calls(alloc, failing)?)
+    Ok(out.into_bytes())
 }
 
-/// Runs with these words over the link, and compares the status and what was printed.
-fn check(
-    rt: &impl Abort,
+/// The number of the one call that fails.
+fn one(alloc: Global, call: u64) -> Result<Items<u64>, Memory> {
+    Ok(Items::from_vec(Vec::from_slice(alloc, &[call])?))
+}
+
+/// Runs with these words over a link whose server sends these bytes, and whose call of this number fails. No call has
+/// the number 0.
+fn run(
     alloc: Global,
     words: &[&str],
-    link: &mut MemoryLink,
-    status: u8,
-    printed: &[u8],
-) -> Result<(), Memory>
-    requires { link.old.finished ≡ false }
-    ensures { link.new.finished ≡ false }
-{
-    let mut input = MemorySource::new(Bytes::copy(alloc, &[])?, calls(alloc, &[])?);
-    let mut out = MemorySink::new(alloc, 4096, calls(alloc, &[])?)?;
+    local: bool,
+    sent: Bytes,
+    failing: u64,
+) -> Result<Ran, Memory> {
     let words = strings(alloc, words)?;
-    let answer = run_tool(alloc, words.as_slice(), &mut input, &mut out, link);
-    assert_eq!(rt; answer, status);
-    assert_eq!(rt; out.written(), printed);
-    Ok(())
+    let mut input = MemorySource::new(Bytes::copy(alloc, &[])?, one(alloc, 0)?);
+    let mut out = MemorySink::new(alloc, 4096, one(alloc, 0)?)?;
+    let mut link = MemoryLink::new(alloc, sent, 4096, local, one(alloc, failing)?)?;
+    let status = run_tool(alloc, words.as_slice(), &mut input, &mut out, &mut link);
+    Ok(Ran {
+        status,
+        printed: Bytes::copy(alloc, out.written())?,
+        written: Bytes::copy(alloc, link.written())?,
+    })
+}
+
+fn check(rt: &impl Abort, ran: &Ran, status: u8, printed: &[u8]) {
+    assert_eq!(rt; ran.status, status);
+    assert_eq!(rt; ran.printed.as_slice(), printed);
 }
 
 /// Whether the bytes of the password stand among the bytes.
@@ -93,234 +104,124 @@ fn has_password(bytes: &[u8]) -> bool {
 #[test]
 fn the_password_is_written_to_a_local_server_alone(rt: HostRuntime) -> Result<(), Fail> {
     let alloc = rt.alloc();
-    let sent = &[(0, GREETING), (2, FULL), (4, OK)];
-    let mut away = link(alloc, false, sent, &[])?;
-    check(&rt, alloc, NAT, &mut away, 8, b"wontsend notlocal\n")?;
-    assert!(rt; !has_password(away.written()));
-    let mut here = link(alloc, true, sent, &[])?;
-    check(&rt, alloc, NAT, &mut here, 0, b"opened\n")?;
-    assert!(rt; has_password(here.written()));
+    let away = run(alloc, NAT, false, packets(alloc, ASKS_FOR_IT)?, 0)?;
+    check(&rt, &away, 8, b"wontsend notlocal\n");
+    assert!(rt; !has_password(away.written.as_slice()));
+    let here = run(alloc, NAT, true, packets(alloc, ASKS_FOR_IT)?, 0)?;
+    check(&rt, &here, 0, b"opened\n");
+    assert!(rt; has_password(here.written.as_slice()));
     Ok(())
 }
 
-#[test]
-fn half_a_greeting_is_closed(rt: HostRuntime) -> Result<(), Fail> {
-    let alloc = rt.alloc();
-    let bytes = Bytes::copy(alloc, b"\x4f\x00\x00\x00\x0a8.0.0-login\x00\x01")?;
-    let mut half = MemoryLink::new(alloc, bytes, 4096, true, calls(alloc, &[])?)?;
-    check(&rt, alloc, NAT, &mut half, 7, b"closed\n")?;
-    Ok(())
-}
-
-/// Runs where the server sends these packets.
-fn check_sent(
-    rt: &impl Abort,
-    alloc: Global,
-    sent: &[(u8, &[u8])],
-    status: u8,
-    printed: &[u8],
-) -> Result<(), Memory> {
-    let mut here = link(alloc, true, sent, &[])?;
-    check(rt, alloc, NAT, &mut here, status, printed)
-}
+/// What servers send, and the status and the words of the result.
+const RESULTS: &[(Sent, u8, &[u8])] = &[
+    (&[(0, GREETING), (2, ERR)], 1, b"refused 1045\n"),
+    (&[(0, GREETING), (2, b"\x00\xff")], 7, b"malformed 1\n"),
+    (&[(0, GREETING), (3, OK)], 7, b"framing 83\n"),
+    (&[(0, GREETING), (2, FACTOR)], 8, b"wontsend nosecret\n"),
+    (
+        &[(0, GREETING), (2, b"\xfedialog\x00")],
+        8,
+        b"wontsend unknownmethod\n",
+    ),
+    (
+        &[(0, GREETING), (2, b"\xfemysql_clear_password\x00")],
+        8,
+        b"wontsend notpermitted\n",
+    ),
+];
 
 #[test]
 fn each_result_has_its_words_and_its_status(rt: HostRuntime) -> Result<(), Fail> {
     let alloc = rt.alloc();
-    check_sent(&rt, alloc, &[(0, GREETING), (2, ERR)], 1, b"refused 1045\n")?;
-    check_sent(
-        &rt,
-        alloc,
-        &[(0, GREETING), (2, b"\x00\xff")],
-        7,
-        b"malformed 1\n",
-    )?;
-    check_sent(&rt, alloc, &[(0, GREETING), (3, OK)], 7, b"framing 83\n")?;
-    check_sent(
-        &rt,
-        alloc,
-        &[(0, GREETING), (2, FACTOR)],
-        8,
-        b"wontsend nosecret\n",
-    )?;
-    let dialog = b"\xfedialog\x00".as_slice();
-    check_sent(
-        &rt,
-        alloc,
-        &[(0, GREETING), (2, dialog)],
-        8,
-        b"wontsend unknownmethod\n",
-    )?;
-    let clear = b"\xfemysql_clear_password\x00".as_slice();
-    check_sent(
-        &rt,
-        alloc,
-        &[(0, GREETING), (2, clear)],
-        8,
-        b"wontsend notpermitted\n",
-    )?;
+    for (sent, status, printed) in RESULTS {
+        let ran = run(alloc, NAT, true, packets(alloc, sent)?, 0)?;
+        check(&rt, &ran, *status, printed);
+    }
+    let half = Bytes::copy(alloc, b"\x4f\x00\x00\x00\x0a8.0.0-login\x00\x01")?;
+    check(&rt, &run(alloc, NAT, true, half, 0)?, 7, b"closed\n");
     Ok(())
 }
 
+/// The link is called nine times: it is dialled, read and written.
 #[test]
 fn a_link_that_fails_at_any_call_is_a_linkfault(rt: HostRuntime) -> Result<(), Fail> {
     let alloc = rt.alloc();
-    for call in 1..10 {
-        let sent = &[(0, GREETING), (2, FULL), (4, OK)];
-        let mut failing = link(alloc, true, sent, &[call])?;
-        check(&rt, alloc, NAT, &mut failing, 4, b"linkfault\n")?;
+    for call in 1..=10 {
+        let ran = run(alloc, NAT, true, packets(alloc, ASKS_FOR_IT)?, call)?;
+        if call < 10 {
+            check(&rt, &ran, 4, b"linkfault\n");
+        } else {
+            check(&rt, &ran, 0, b"opened\n");
+        }
     }
     Ok(())
 }
 
+/// All options, in another order; a value may be a word that is spelled as an option.
+const ALL_OPTIONS: &[&str] = &[
+    "login",
+    "--clear",
+    "--factor3",
+    "three",
+    "--user",
+    "nat",
+    "--expired",
+    "--factor2",
+    "two",
+    "--password",
+    "--user",
+    "--socket",
+    "s",
+];
+
+/// A server that lets the client in behind two further factors.
+const ASKS_FOR_FACTORS: Sent = &[(0, GREETING), (2, FACTOR), (4, FACTOR), (6, OK)];
+
 #[test]
 fn options_stand_in_any_order(rt: HostRuntime) -> Result<(), Fail> {
     let alloc = rt.alloc();
-    let words = &[
-        "login",
-        "--clear",
-        "--factor3",
-        "three",
-        "--user",
-        "nat",
-        "--expired",
-        "--factor2",
-        "two",
-        "--password",
-        "--user",
-        "--socket",
-        "s",
-    ];
-    let mut here = link(
+    let ran = run(
         alloc,
+        ALL_OPTIONS,
         true,
-        &[(0, GREETING), (2, FACTOR), (4, FACTOR), (6, OK)],
-        &[],
+        packets(alloc, ASKS_FOR_FACTORS)?,
+        0,
     )?;
-    check(&rt, alloc, words, &mut here, 0, b"opened\n")?;
-    let written = here.written();
-    assert!(rt; written.len() == 113);
-    assert_eq!(rt; &written[4..8], b"\x00\xa2\x68\x10".as_slice());
+    check(&rt, &ran, 0, b"opened\n");
+    let written = ran.written.as_slice();
+    assert_eq!(rt; written.len(), 113);
+    assert_eq!(rt; written.get(4..8), Some(b"\x00\xa2\x68\x10".as_slice()));
     assert_eq!(rt;
-        &written[95..],
-        b"\x04\x00\x00\x03two\x00\x06\x00\x00\x05three\x00".as_slice()
+        written.get(95..),
+        Some(b"\x04\x00\x00\x03two\x00\x06\x00\x00\x05three\x00".as_slice())
     );
     Ok(())
 }
 
-/// Runs with words that are of no form.
-fn check_usage(rt: &impl Abort, alloc: Global, words: &[&str]) -> Result<(), Memory> {
-    let mut none = link(alloc, true, &[], &[])?;
-    check(rt, alloc, words, &mut none, 2, USAGE)
-}
+/// Words that are no login by a value: one without a byte, and ones with a byte 00, which no command line holds.
+const BAD_VALUES: &[&[&str]] = &[
+    &["login", "--socket", "", "--user", "n"],
+    &["login", "--socket", "s", "--user", ""],
+    &["login", "--socket", "s\0", "--user", "n"],
+    &["login", "--socket", "s", "--user", "\0"],
+    &[
+        "login",
+        "--socket",
+        "s",
+        "--user",
+        "n",
+        "--password",
+        "a\0b",
+    ],
+];
 
 #[test]
-fn an_option_stands_at_most_once(rt: HostRuntime) -> Result<(), Fail> {
+fn values_have_bytes_and_no_byte_00(rt: HostRuntime) -> Result<(), Fail> {
     let alloc = rt.alloc();
-    check_usage(
-        &rt,
-        alloc,
-        &["login", "--socket", "s", "--user", "n", "--socket", "s"],
-    )?;
-    check_usage(
-        &rt,
-        alloc,
-        &["login", "--user", "n", "--socket", "s", "--user", "n"],
-    )?;
-    let base = ["login", "--socket", "s", "--user", "n"];
-    let [l, s, p, u, n] = base;
-    check_usage(
-        &rt,
-        alloc,
-        &[l, s, p, u, n, "--password", "a", "--password", "b"],
-    )?;
-    check_usage(
-        &rt,
-        alloc,
-        &[l, s, p, u, n, "--factor2", "a", "--factor2", "a"],
-    )?;
-    check_usage(
-        &rt,
-        alloc,
-        &[
-            l,
-            "--factor3",
-            "a",
-            s,
-            p,
-            "--factor2",
-            "a",
-            u,
-            n,
-            "--factor3",
-            "a",
-        ],
-    )?;
-    check_usage(&rt, alloc, &[l, "--clear", s, p, u, n, "--clear"])?;
-    check_usage(
-        &rt,
-        alloc,
-        &[l, s, "--expired", u, n, "--expired", "--expired"],
-    )?;
-    Ok(())
-}
-
-#[test]
-fn an_option_has_its_value(rt: HostRuntime) -> Result<(), Fail> {
-    let alloc = rt.alloc();
-    check_usage(&rt, alloc, &["login", "--user", "n", "--socket"])?;
-    check_usage(&rt, alloc, &["login", "--socket", "s", "--user"])?;
-    check_usage(
-        &rt,
-        alloc,
-        &["login", "--socket", "s", "--user", "n", "--password"],
-    )?;
-    check_usage(
-        &rt,
-        alloc,
-        &["login", "--socket", "s", "--user", "n", "--factor2"],
-    )?;
-    check_usage(&rt, alloc, &["login", "--socket", "", "--user", "n"])?;
-    check_usage(&rt, alloc, &["login", "--socket", "s", "--user", ""])?;
-    check_usage(&rt, alloc, &["login", "--socket", "s\0", "--user", "n"])?;
-    check_usage(&rt, alloc, &["login", "--socket", "s", "--user", "\0"])?;
-    check_usage(
-        &rt,
-        alloc,
-        &[
-            "login",
-            "--socket",
-            "s",
-            "--user",
-            "n",
-            "--password",
-            "a\0b",
-        ],
-    )?;
-    Ok(())
-}
-
-#[test]
-fn words_are_those_of_a_login(rt: HostRuntime) -> Result<(), Fail> {
-    let alloc = rt.alloc();
-    check_usage(&rt, alloc, &["login"])?;
-    check_usage(&rt, alloc, &["login", "--socket", "s"])?;
-    check_usage(&rt, alloc, &["login", "--user", "n"])?;
-    check_usage(&rt, alloc, &["Login", "--socket", "s", "--user", "n"])?;
-    check_usage(
-        &rt,
-        alloc,
-        &["login", "--socket", "s", "--user", "n", "more"],
-    )?;
-    check_usage(
-        &rt,
-        alloc,
-        &["login", "--socket", "s", "--user", "n", "--Clear"],
-    )?;
-    check_usage(
-        &rt,
-        alloc,
-        &["login", "--socket", "s", "--user", "n", "--factor3", "a"],
-    )?;
+    for words in BAD_VALUES {
+        let ran = run(alloc, words, true, packets(alloc, &[])?, 0)?;
+        check(&rt, &ran, 2, USAGE);
+    }
     Ok(())
 }

@@ -1,10 +1,9 @@
-//! Runs of the command line over streams in memory: what is printed, and the status, also where a stream fails.
-
-ghost use Rattle.std.specs.Prelude.{◌≡◌, IfOk, false};
+//! Runs of the command line over streams in memory that fail at some call: what is printed, and the status. What is
+//! printed where nothing fails, and the usage, are shown by the runs of tests/replay.
 
 use crate::tool::run_tool;
 use lg_base::{Bytes, Items, Memory};
-use lg_outside::{Link, MemoryLink, MemorySink, MemorySource, Sink, Source};
+use lg_outside::{MemoryLink, MemorySink, MemorySource};
 use std::alloc::{AllocError, Global};
 use std::process::Abort;
 use std::test::Fail;
@@ -27,169 +26,24 @@ end 2\n";
 const USAGE: &[u8] =
     b"usage: loginctl replay [--generate N] | login --socket PATH --user NAME [--password WORD] [--factor2 WORD] [--factor3 WORD] [--clear] [--expired] | frames\n";
 
-/// Room for all that a run prints.
-const ROOM: usize = 4096;
-
-fn calls(alloc: Global, numbers: &[u64]) -> Result<Items<u64>, Memory> {
-    Ok(Items::from_vec(Vec::from_slice(alloc, numbers)?))
-}
-
-/// The words of a command line with one word or none.
-fn words(alloc: Global, word: &str) -> Result<Vec<String>, Memory> {
-    let mut words = Vec::new(alloc);
-    if !word.is_empty() {
-        words.push(String::from_str(alloc, word)?)?;
-    }
-    Ok(words)
-}
-
-/// A link whose peer sends nothing, for runs that use none.
-fn no_link(alloc: Global) -> Result<MemoryLink, Memory>
-    ensures { IfOk result (λ link. link.finished ≡ false) }
-{
-    MemoryLink::new(alloc, Bytes::copy(alloc, &[])?, 0, true, calls(alloc, &[])?)
-}
-
-/// A source of the bytes, of which the listed reads fail.
-fn source(alloc: Global, bytes: &[u8], failing: &[u64]) -> Result<MemorySource, Memory> {
-    Ok(MemorySource::new(Bytes::copy(alloc, bytes)?, calls(alloc, failing)?))
-}
-
-/// Runs with ample room and no fault, and compares the status and what was printed.
-fn check_run(
-    rt: &impl Abort,
-    alloc: Global,
-    word: &str,
-    input: &[u8],
-    status: u8,
-    printed: &[u8],
-) -> Result<(), Memory> {
-    let mut input = source(alloc, input, &[])?;
-    let mut out = MemorySink::new(alloc, ROOM, calls(alloc, &[])?)?;
-    let words = words(alloc, word)?;
-    let mut link = no_link(alloc)?;
-    assert_eq!(rt;
-        run_tool(alloc, words.as_slice(), &mut input, &mut out, &mut link),
-        status
-    );
-    assert_eq!(rt; out.written(), printed);
-    Ok(())
-}
-
-#[test]
-fn memory_is_enough_for_a_script(rt: HostRuntime) -> Result<(), Fail> {
-    check_run(&rt, rt.alloc(), "replay", SCRIPT, 0, PRINTED)?;
-    Ok(())
-}
-
-#[test]
-fn a_script_of_no_events_has_no_entries(rt: HostRuntime) -> Result<(), Fail> {
-    check_run(&rt, rt.alloc(), "replay", b"end\n", 0, b"end 0\n")?;
-    Ok(())
-}
-
-#[test]
-fn an_input_that_is_no_script_names_its_bad_line(rt: HostRuntime) -> Result<(), Fail> {
-    let whole = SCRIPT.len();
-    for (input, line) in [
-        (&SCRIPT[..0], b"bad line 1\n".as_slice()),
-        (&SCRIPT[1..], b"bad line 1\n".as_slice()),
-        (&SCRIPT[..whole - 1], b"bad line 5\n".as_slice()),
-        (&SCRIPT[..whole - 4], b"bad line 5\n".as_slice()),
-    ] {
-        check_run(&rt, rt.alloc(), "replay", input, 3, line)?;
-    }
-    Ok(())
-}
-
-#[test]
-fn words_of_no_form_print_the_usage(rt: HostRuntime) -> Result<(), Fail> {
-    for word in ["", "replays", "Replay"] {
-        check_run(&rt, rt.alloc(), word, SCRIPT, 2, USAGE)?;
-    }
-    Ok(())
-}
-
-#[test]
-fn an_input_that_fails_at_any_read_gives_4_and_nothing_is_written(
-    rt: HostRuntime,
-) -> Result<(), Fail> {
-    for call in [1, 2] {
-        let mut input = source(rt.alloc(), SCRIPT, &[call])?;
-        let mut out = MemorySink::new(rt.alloc(), ROOM, calls(rt.alloc(), &[])?)?;
-        let words = words(rt.alloc(), "replay")?;
-        let mut link = no_link(rt.alloc())?;
-        assert_eq!(rt;
-            run_tool(
-                rt.alloc(),
-                words.as_slice(),
-                &mut input,
-                &mut out,
-                &mut link
-            ),
-            4
-        );
-        assert_eq!(rt; input.faults(), 1);
-        assert!(rt; out.written().is_empty());
-    }
-    Ok(())
-}
-
-/// Runs with a sink of so much room, of which the listed writes fail: the status is 5, and what was written is
-/// a beginning of what was due.
-fn check_sink(
-    rt: &impl Abort,
-    alloc: Global,
-    word: &str,
-    due: &[u8],
-    mut out: MemorySink,
-) -> Result<(), Memory> {
-    let mut input = source(alloc, SCRIPT, &[])?;
-    let words = words(alloc, word)?;
-    let mut link = no_link(alloc)?;
-    assert_eq!(rt;
-        run_tool(alloc, words.as_slice(), &mut input, &mut out, &mut link),
-        5
-    );
-    assert!(rt; out.faults() > 0);
-    assert!(rt; due.starts_with(out.written()));
-    Ok(())
-}
-
-#[test]
-fn an_output_that_fails_gives_5_and_a_beginning_of_what_was_due(
-    rt: HostRuntime,
-) -> Result<(), Fail> {
-    let alloc = rt.alloc();
-    for (word, due) in [("replay", PRINTED), ("", USAGE)] {
-        check_sink(
-            &rt,
-            alloc,
-            word,
-            due,
-            MemorySink::new(alloc, ROOM, calls(alloc, &[1])?)?,
-        )?;
-        for room in [0, 1, due.len() - 1] {
-            check_sink(
-                &rt,
-                alloc,
-                word,
-                due,
-                MemorySink::new(alloc, room, calls(alloc, &[])?)?,
-            )?;
-        }
-    }
-    Ok(())
-}
-
 /// What `frames` prints of three packets of 40,000 bytes, which are read in two pieces.
 const LISTED: &[u8] = b"packet 1 at 0 seq 0 length 40000\n\
 packet 2 at 40004 seq 7 length 40000\n\
 packet 3 at 80008 seq 9 length 40000\n\
 end 3\n";
 
-/// How much of it is printed before each write, and before each read after the first.
-const FRONTS: [usize; 3] = [0, 33, 107];
+/// What stands before the first, the second and the third read and write of it; there is no fourth one.
+const BEFORE_EACH_CALL: [(u64, &[u8]); 4] = [
+    (1, b""),
+    (2, b"packet 1 at 0 seq 0 length 40000\n"),
+    (
+        3,
+        b"packet 1 at 0 seq 0 length 40000\n\
+packet 2 at 40004 seq 7 length 40000\n\
+packet 3 at 80008 seq 9 length 40000\n",
+    ),
+    (4, LISTED),
+];
 
 fn three_packets(alloc: Global) -> Result<Vec<u8>, AllocError> {
     let mut bytes = vec![in alloc; 0u8; 120_012]?;
@@ -204,65 +58,90 @@ fn three_packets(alloc: Global) -> Result<Vec<u8>, AllocError> {
     Ok(bytes)
 }
 
-#[test]
-fn packets_are_listed(rt: HostRuntime) -> Result<(), Fail> {
-    let bytes = three_packets(rt.alloc())?;
-    check_run(&rt, rt.alloc(), "frames", bytes.as_slice(), 0, LISTED)?;
-    check_run(&rt, rt.alloc(), "frames", &[], 0, b"end 0\n")?;
-    let fault = b"packet 1 at 0 seq 5 length 0\nbad packet at 4\n";
-    check_run(
-        &rt,
-        rt.alloc(),
-        "frames",
-        &[0, 0, 0, 5, 1, 0, 0, 0],
-        3,
-        fault,
-    )?;
-    Ok(())
+/// Room for all that a run prints.
+const ROOM: usize = 4096;
+
+/// What a run answered and printed.
+#[derive(Drop)]
+struct Ran {
+    status: u8,
+    printed: Bytes,
 }
 
+/// Runs with one word or none on an input, whose read of this number fails, and a sink with so much room, whose write
+/// of this number fails. No call has the number 0.
+fn run(
+    alloc: Global,
+    word: &str,
+    input: &[u8],
+    read: u64,
+    room: usize,
+    write: u64,
+) -> Result<Ran, Memory> {
+    let mut words = Vec::new(alloc);
+    if !word.is_empty() {
+        words.push(String::from_str(alloc, word)?)?;
+    }
+    let mut input = MemorySource::new(Bytes::copy(alloc, input)?, one(alloc, read)?);
+    let mut out = MemorySink::new(alloc, room, one(alloc, write)?)?;
+    let mut link = MemoryLink::new(alloc, Bytes::copy(alloc, &[])?, 0, true, one(alloc, 0)?)?;
+    let status = run_tool(alloc, words.as_slice(), &mut input, &mut out, &mut link);
+    Ok(Ran {
+        status,
+        printed: Bytes::copy(alloc, out.written())?,
+    })
+}
+
+/// The number of the one call that fails.
+fn one(alloc: Global, call: u64) -> Result<Items<u64>, Memory> {
+    Ok(Items::from_vec(Vec::from_slice(alloc, &[call])?))
+}
+
+fn check(rt: &impl Abort, ran: &Ran, status: u8, printed: &[u8]) {
+    assert_eq!(rt; ran.status, status);
+    assert_eq!(rt; ran.printed.as_slice(), printed);
+}
+
+/// Where the input fails, the packets before are listed; where the output does, the lines before are there.
 #[test]
-fn an_input_that_fails_at_any_read_lists_the_packets_before(rt: HostRuntime) -> Result<(), Fail> {
-    let bytes = three_packets(rt.alloc())?;
-    for (call, front) in [(1, FRONTS[0]), (2, FRONTS[1]), (3, FRONTS[2])] {
-        let mut input = source(rt.alloc(), bytes.as_slice(), &[call])?;
-        let mut out = MemorySink::new(rt.alloc(), ROOM, calls(rt.alloc(), &[])?)?;
-        let words = words(rt.alloc(), "frames")?;
-        let mut link = no_link(rt.alloc())?;
-        assert_eq!(rt;
-            run_tool(
-                rt.alloc(),
-                words.as_slice(),
-                &mut input,
-                &mut out,
-                &mut link
-            ),
-            4
-        );
-        assert_eq!(rt; out.written(), &LISTED[..front]);
+fn packets_are_listed_to_the_call_that_fails(rt: HostRuntime) -> Result<(), Fail> {
+    let alloc = rt.alloc();
+    let packets = three_packets(alloc)?;
+    for (call, before) in BEFORE_EACH_CALL {
+        let fails = call < 4;
+        let read = run(alloc, "frames", packets.as_slice(), call, ROOM, 0)?;
+        check(&rt, &read, if fails { 4 } else { 0 }, before);
+        let written = run(alloc, "frames", packets.as_slice(), 0, ROOM, call)?;
+        check(&rt, &written, if fails { 5 } else { 0 }, before);
     }
     Ok(())
 }
 
+/// A script is read in two reads, the second of which finds the end. Where one fails nothing is printed.
 #[test]
-fn an_output_that_fails_at_any_write_has_the_lines_before(rt: HostRuntime) -> Result<(), Fail> {
-    let bytes = three_packets(rt.alloc())?;
-    for (call, front) in [(1, FRONTS[0]), (2, FRONTS[1]), (3, FRONTS[2])] {
-        let mut input = source(rt.alloc(), bytes.as_slice(), &[])?;
-        let mut out = MemorySink::new(rt.alloc(), ROOM, calls(rt.alloc(), &[call])?)?;
-        let words = words(rt.alloc(), "frames")?;
-        let mut link = no_link(rt.alloc())?;
-        assert_eq!(rt;
-            run_tool(
-                rt.alloc(),
-                words.as_slice(),
-                &mut input,
-                &mut out,
-                &mut link
-            ),
-            5
+fn a_script_that_cannot_be_read_prints_nothing(rt: HostRuntime) -> Result<(), Fail> {
+    let alloc = rt.alloc();
+    for (call, status, printed) in [(1, 4, b"".as_slice()), (2, 4, b""), (3, 0, PRINTED)] {
+        check(
+            &rt,
+            &run(alloc, "replay", SCRIPT, call, ROOM, 0)?,
+            status,
+            printed,
         );
-        assert_eq!(rt; out.written(), &LISTED[..front]);
+    }
+    Ok(())
+}
+
+/// A write that fails, and sinks with too little room: what was printed is a beginning of what was due.
+#[test]
+fn an_output_that_fails_has_a_beginning(rt: HostRuntime) -> Result<(), Fail> {
+    let alloc = rt.alloc();
+    for (word, due) in [("replay", PRINTED), ("", USAGE)] {
+        for (room, write) in [(ROOM, 1), (0, 0), (1, 0), (due.len().saturating_sub(1), 0)] {
+            let ran = run(alloc, word, SCRIPT, 0, room, write)?;
+            assert_eq!(rt; ran.status, 5);
+            assert!(rt; due.starts_with(ran.printed.as_slice()));
+        }
     }
     Ok(())
 }

@@ -1,4 +1,4 @@
--- What an answer to an ask fits, and what answers any talk.
+-- What an answer to an ask fits.
 use Rattle.std.proofs.Common.{◌≡◌, refl, ℕ, false, IsTrue, subst, sym}
 use Rattle.packet_frame.specs.declared.packets.FrameFault.{FrameFault}
 use Rattle.session_engine.specs.Driving.{gives_back}
@@ -21,21 +21,9 @@ plain_fits (ask.Check look evidences) (input.Checked checked) e = absurd (cc)
 plain_fits (ask.Settle checked flags) (input.Stale evidences) e = absurd (cc)
 plain_fits a given e = tt
 
--- a fault of framing gives nothing back
-pub frame_is_asked : (t : Talk) (fault : FrameFault) → IsAsked t (input.Frame fault)
+-- nor is it other than what any talk asked about
+pub plain_is_asked : (t : Talk) (given : Input) → gives_back given ≡ false → IsAsked t given
 unfolding IsAsked
-frame_is_asked (Checks look evidences t) fault = tt
-frame_is_asked (Settles checked flags stale k) fault = tt
-frame_is_asked t fault = tt
-
--- nor does a link that fails
-pub broken_link_is_asked : (t : Talk) → IsAsked t input.LinkFailed
-unfolding IsAsked
-broken_link_is_asked (Checks look evidences t) = tt
-broken_link_is_asked (Settles checked flags stale k) = tt
-broken_link_is_asked t = tt
-
--- a talk that has failed is answered by anything
-pub failed_is_answered : (t : Talk) (given : Input) → t ≡ Over end.Memory → IsTrue (is_answer t given)
-unfolding is_answer
-failed_is_answered t given e = subst (λ (u : Talk). IsTrue (is_answer u given)) (sym e) refl
+plain_is_asked (Checks look evidences t) (input.Checked checked) e = absurd (cc)
+plain_is_asked (Settles checked flags stale k) (input.Stale evidences) e = absurd (cc)
+plain_is_asked t given e = tt

@@ -1,8 +1,5 @@
 //! Which inputs answer each ask.
 
-ghost use Rattle.session_engine.specs.Standing.{HasFailed};
-ghost use Rattle.std.specs.Prelude.{IfOk};
-
 use super::driving::{Driven, Given, OPENED, begin, responded, take};
 use super::made::{ANSWER, FLAGS, FRESH, FRESH_FAST, NATIVE, NONCE, Shown, look, packet};
 use crate::session::Session;
@@ -99,7 +96,7 @@ fn each_ask_has_its_kinds_of_answers(rt: HostRuntime) -> Result<(), Fail> {
     check_answers(&rt, &driven.session, LOOK)?;
     let rows = [
         (Given::Looked(Shown::Known, 7), DRAW),
-        (Given::Drawn(FRESH), READ),
+        (Given::Drawn, READ),
         (Given::Packet(3, b"another answer"), READ),
         (Given::Packet(5, b"one"), CHECK),
         (Given::Checked, SETTLE),
@@ -137,35 +134,18 @@ fn nonces_are_of_the_alphabet(rt: HostRuntime) -> Result<(), Fail> {
 }
 
 /// A session for which there was no memory.
-#[tactic(auto, using(crate::proofs::Driving::frame_is_asked))]
-fn failed(rt: &(impl Abort + AllocGlobal)) -> Result<Session, Memory>
-    ensures { IfOk result (λ session. HasFailed session) }
-{
+#[tactic(auto, using(crate::proofs::Driving::plain_is_asked))]
+fn failed(rt: &(impl Abort + AllocGlobal)) -> Result<Session, Memory> {
     let mut session = begin(rt)?.session;
     let fault = Input::Frame(FrameFault::Memory);
     assert!(rt; session.answers(&fault));
-    match session.on(fault) {
-        Err(Memory) => Ok(session),
-        Ok(_) => {
-            assert!(rt; false);
-            Err(Memory)
-        }
-    }
+    assert!(rt; session.on(fault).is_err());
+    Ok(session)
 }
 
-/// Whether a session that has failed fails on its next input.
-#[tactic(auto, using(crate::proofs::Driving::failed_is_answered, crate::proofs::Driving::broken_link_is_asked))]
-fn fails_again(session: &mut Session) -> bool
-    requires { HasFailed session.old }
-{
-    session.on(Input::LinkFailed).is_err()
-}
-
-/// A session for which there was no memory takes anything, and fails again.
+/// A session for which there was no memory takes anything. That it fails again is a clause of `Session::on`.
 #[test]
 fn a_session_that_failed(rt: HostRuntime) -> Result<(), Fail> {
-    let mut session = failed(&rt)?;
-    check_answers(&rt, &session, *b"yyyyyyyyyyyyy")?;
-    assert!(rt; fails_again(&mut session));
+    check_answers(&rt, &failed(&rt)?, *b"yyyyyyyyyyyyy")?;
     Ok(())
 }

@@ -6,12 +6,11 @@ ghost use Rattle.session_engine.specs.Driving.{gives_back};
 ghost use Rattle.session_talk.specs.Turns.{IsFitting, asked};
 ghost use Rattle.std.specs.Prelude.{◌≡◌, IfOk, false};
 
-use super::made::{NONCE, Shown, look, packet, response};
+use super::made::{FRESH, NONCE, Shown, look, packet, response};
 use crate::session::Session;
 use account_history::{Reply, Who};
 use factor_chain::{Evidence, Evidences, check};
 use lg_base::{Host, Memory};
-use packet_frame::FrameFault;
 use session_talk::{Action, Ask, Input, SessionEnd};
 use std::alloc::Global;
 use std::process::Abort;
@@ -21,10 +20,8 @@ use std::process::Abort;
 pub enum Given<'a> {
     /// A packet with this sequence id.
     Packet(u8, &'a [u8]),
-    Frame(FrameFault),
-    End(bool),
-    LinkFailed,
-    Drawn([u8; 20]),
+    /// The fresh nonce.
+    Drawn,
     /// A look that shows such an account, with this stamp.
     Looked(Shown, u64),
     /// What was asked about was checked.
@@ -50,13 +47,12 @@ pub const DENY_BLANK: Given<'static> = Given::Settled(Reply::Denied {
     using_password: false,
 });
 
-/// One piece of evidence.
+/// One piece of evidence: the name of its kind, the nonce that it answers, and the answer or the password.
 #[derive(Clone, Copy)]
-pub enum Proof<'a> {
-    Native([u8; 20], &'a [u8]),
-    Fast([u8; 20], [u8; 32]),
-    Full(&'a [u8]),
-    Empty,
+pub struct Proof<'a> {
+    pub kind: &'a [u8],
+    pub nonce: &'a [u8],
+    pub given: &'a [u8],
 }
 
 /// What a session asks for.
@@ -95,9 +91,7 @@ fn plain_input(alloc: Global, given: Given) -> Result<Input, Memory>
 {
     match given {
         Given::Packet(id, payload) => Ok(Input::Packet(packet(alloc, id, payload)?)),
-        Given::Frame(fault) => Ok(Input::Frame(fault)),
-        Given::End(cut) => Ok(Input::End { cut }),
-        Given::Drawn(nonce) => Ok(Input::Drawn(nonce)),
+        Given::Drawn => Ok(Input::Drawn(FRESH)),
         Given::Looked(shown, stamp) => Ok(Input::Looked(look(alloc, shown, stamp)?)),
         Given::Settled(reply) => Ok(Input::Settled(reply)),
         _ => Ok(Input::LinkFailed),
@@ -120,19 +114,43 @@ fn input_of(alloc: Global, ask: Ask, given: Given) -> Result<Input, Memory>
     }
 }
 
-fn is_proof(evidences: &Evidences, proof: Proof) -> bool {
+/// A piece of evidence as it is compared.
+fn proof_of(evidence: &Evidence) -> Proof {
+    match evidence {
+        Evidence::Native { nonce, response } => Proof {
+            kind: b"native",
+            nonce,
+            given: response.as_slice(),
+        },
+        Evidence::Fast { nonce, response } => Proof {
+            kind: b"fast",
+            nonce,
+            given: response,
+        },
+        Evidence::Full { password } => Proof {
+            kind: b"full",
+            nonce: b"",
+            given: password.as_slice(),
+        },
+        Evidence::Empty => Proof {
+            kind: b"empty",
+            nonce: b"",
+            given: b"",
+        },
+        Evidence::External { .. } => Proof {
+            kind: b"external",
+            nonce: b"",
+            given: b"",
+        },
+    }
+}
+
+fn is_proof(evidences: &Evidences, wanted: Proof) -> bool {
     let [given] = evidences.as_slice() else {
         return false;
     };
-    match (given, proof) {
-        (Evidence::Native { nonce, response }, Proof::Native(n, r)) => {
-            *nonce == n && response.as_slice() == r
-        }
-        (Evidence::Fast { nonce, response }, Proof::Fast(n, r)) => *nonce == n && *response == r,
-        (Evidence::Full { password }, Proof::Full(p)) => password.as_slice() == p,
-        (Evidence::Empty, Proof::Empty) => true,
-        _ => false,
-    }
+    let proof = proof_of(given);
+    proof.kind == wanted.kind && proof.nonce == wanted.nonce && proof.given == wanted.given
 }
 
 fn is_login(who: &Who, user: &[u8]) -> bool {
@@ -205,11 +223,27 @@ pub fn said(rt: &impl Abort, action: &Action, first: u8, payload: &[u8], asked: 
 }
 
 /// A new session has drawn its first nonce.
-#[tactic(auto, unfolding(session_talk::specs::Turns::IsAsked, session_talk::specs::Turns::is_answer))]
+#[tactic(auto, using(crate::proofs::Driving::plain_is_asked))]
 pub fn begin(rt: &(impl Abort + AllocGlobal)) -> Result<Driven, Memory> {
     let mut session = Session::new(rt.alloc(), 1);
-    let action = session.on(Input::Start { nonce: NONCE })?;
+    let input = Input::Start { nonce: NONCE };
+    assert!(rt; session.answers(&input));
+    let action = session.on(input)?;
     Ok(Driven { session, action })
+}
+
+/// Gives a session an answer, and compares what it then does.
+pub fn go(
+    rt: &(impl Abort + AllocGlobal),
+    driven: Driven,
+    given: Given,
+    first: u8,
+    payload: &[u8],
+    asked: Asked,
+) -> Result<Driven, Memory> {
+    let driven = take(rt, driven, given)?;
+    said(rt, &driven.action, first, payload, asked);
+    Ok(driven)
 }
 
 /// Drives a session by a script.
@@ -220,8 +254,7 @@ pub fn drive(
 ) -> Result<Driven, Memory> {
     let mut driven = driven;
     for (given, first, payload, asked) in script {
-        driven = take(rt, driven, *given)?;
-        said(rt, &driven.action, *first, payload, *asked);
+        driven = go(rt, driven, *given, *first, payload, *asked)?;
     }
     Ok(driven)
 }
@@ -234,7 +267,12 @@ pub fn responded(
     plugin: &[u8],
 ) -> Result<Driven, Memory> {
     let response = response(rt.alloc(), flags, b"nat", answer, plugin)?;
-    let driven = take(rt, begin(rt)?, Given::Packet(1, response.as_slice()))?;
-    said(rt, &driven.action, 2, b"", Asked::Observe(b"nat"));
-    Ok(driven)
+    go(
+        rt,
+        begin(rt)?,
+        Given::Packet(1, response.as_slice()),
+        2,
+        b"",
+        Asked::Observe(b"nat"),
+    )
 }

@@ -2,7 +2,7 @@
 //! of locks, and with stale answers.
 
 use super::driving::{
-    Asked, DENY, DENY_BLANK, Given, Line, OPENED, Proof, REFUSED, drive, responded,
+    Asked, DENY, DENY_BLANK, Given, Line, OPENED, Proof, REFUSED, drive, go, responded,
 };
 use super::made::{
     ANSWER, CACHING, EXPIRED_FLAGS, FAST, FLAGS, FRESH, FRESH_FAST, NATIVE, NONCE, Shown,
@@ -20,13 +20,35 @@ use std::test::Fail;
 /// A response's flags, its answer and the method that it names, and what then happens.
 type Login = (u32, &'static [u8], &'static [u8], &'static [Line<'static>]);
 
-const RIGHT_ANSWER: Proof<'static> = Proof::Native(NONCE, &ANSWER);
+const RIGHT_ANSWER: Proof<'static> = Proof {
+    kind: b"native",
+    nonce: &NONCE,
+    given: &ANSWER,
+};
 
-const FIRST_FAST: Proof<'static> = Proof::Fast(NONCE, FAST);
+const FIRST_FAST: Proof<'static> = Proof {
+    kind: b"fast",
+    nonce: &NONCE,
+    given: &FAST,
+};
 
-const SECOND_FAST: Proof<'static> = Proof::Fast(FRESH, FRESH_FAST);
+const SECOND_FAST: Proof<'static> = Proof {
+    kind: b"fast",
+    nonce: &FRESH,
+    given: &FRESH_FAST,
+};
 
-const PASSWORD: Proof<'static> = Proof::Full(b"one");
+pub const EMPTY: Proof<'static> = Proof {
+    kind: b"empty",
+    nonce: b"",
+    given: b"",
+};
+
+const PASSWORD: Proof<'static> = Proof {
+    kind: b"full",
+    nonce: b"",
+    given: b"one",
+};
 
 const A_FAST_ANSWER: &[Line<'static>] = &[
     (
@@ -49,20 +71,20 @@ const NO_PASSWORD: &[Line<'static>] = &[
         Given::Looked(Shown::Known, 7),
         2,
         b"",
-        Asked::Check(7, Proof::Empty),
+        Asked::Check(7, EMPTY),
     ),
     (
         Given::Checked,
         2,
         b"",
-        Asked::Settle(7, Proof::Empty, FLAGS, false),
+        Asked::Settle(7, EMPTY, FLAGS, false),
     ),
     (DENY_BLANK, 2, DENIED_BLANK, REFUSED),
 ];
 
 const A_SWITCH: &[Line<'static>] = &[
     (Given::Looked(Shown::Known, 7), 2, b"", Asked::Draw),
-    (Given::Drawn(FRESH), 2, TO_CACHING, Asked::Read(3)),
+    (Given::Drawn, 2, TO_CACHING, Asked::Read(3)),
     (
         Given::Packet(3, &FRESH_FAST),
         4,
@@ -81,7 +103,7 @@ const A_SWITCH: &[Line<'static>] = &[
 /// The fast answer to the first nonce fits no digest with the fresh one.
 const A_SWITCH_AND_THE_PASSWORD: &[Line<'static>] = &[
     (Given::Looked(Shown::Known, 7), 2, b"", Asked::Draw),
-    (Given::Drawn(FRESH), 2, TO_CACHING, Asked::Read(3)),
+    (Given::Drawn, 2, TO_CACHING, Asked::Read(3)),
     (Given::Packet(3, &FAST), 4, FULL, Asked::Read(5)),
     (
         Given::Packet(5, b"one\x00"),
@@ -211,17 +233,35 @@ const IN_THE_CLEAR: &[Clear] = &[
         Shown::Salted,
         &FAST,
         b"one\x00\x00",
-        Proof::Full(b"one\x00"),
+        Proof {
+            kind: b"full",
+            nonce: b"",
+            given: b"one\x00",
+        },
         false,
     ),
-    (Shown::Salted, &FAST, b"two\x00", Proof::Full(b"two"), false),
-    (Shown::Salted, &FAST, b"", Proof::Empty, false),
-    (Shown::Salted, &FAST, b"\x00", Proof::Empty, false),
+    (
+        Shown::Salted,
+        &FAST,
+        b"two\x00",
+        Proof {
+            kind: b"full",
+            nonce: b"",
+            given: b"two",
+        },
+        false,
+    ),
+    (Shown::Salted, &FAST, b"", EMPTY, false),
+    (Shown::Salted, &FAST, b"\x00", EMPTY, false),
     (
         Shown::Salted,
         &FAST,
         b"\x00\x00",
-        Proof::Full(b"\x00"),
+        Proof {
+            kind: b"full",
+            nonce: b"",
+            given: b"\x00",
+        },
         false,
     ),
     (Shown::Known, &FRESH_FAST, b"one\x00", PASSWORD, true),
@@ -244,64 +284,90 @@ const IN_THE_CLEAR: &[Clear] = &[
     (Shown::Known, b"\x01", b"one\x00", PASSWORD, true),
 ];
 
-/// What follows a look where the password is asked for.
-fn clear_lines<'a>(shown: Shown, text: &'a [u8], proof: Proof<'a>, fits: bool) -> [Line<'a>; 4] {
-    let last = if fits {
-        (OPENED, 4, OK, Asked::Read(0))
+/// The password is asked for, and comes.
+fn check_clear(rt: &(impl Abort + AllocGlobal), row: &Clear) -> Result<(), Memory> {
+    let (shown, answer, text, proof, fits) = *row;
+    let driven = responded(rt, FLAGS, answer, CACHING)?;
+    let driven = go(rt, driven, Given::Looked(shown, 7), 2, FULL, Asked::Read(3))?;
+    let driven = go(
+        rt,
+        driven,
+        Given::Packet(3, text),
+        4,
+        b"",
+        Asked::Check(7, proof),
+    )?;
+    let driven = go(
+        rt,
+        driven,
+        Given::Checked,
+        4,
+        b"",
+        Asked::Settle(7, proof, FLAGS, fits),
+    )?;
+    if fits {
+        go(rt, driven, OPENED, 4, OK, Asked::Read(0))?;
     } else {
-        (DENY, 4, DENIED, REFUSED)
-    };
-    [
-        (Given::Looked(shown, 7), 2, FULL, Asked::Read(3)),
-        (Given::Packet(3, text), 4, b"", Asked::Check(7, proof)),
-        (Given::Checked, 4, b"", Asked::Settle(7, proof, FLAGS, fits)),
-        last,
-    ]
-}
-
-#[test]
-fn passwords_in_the_clear(rt: HostRuntime) -> Result<(), Fail> {
-    for (shown, answer, text, proof, fits) in IN_THE_CLEAR {
-        let driven = responded(&rt, FLAGS, answer, CACHING)?;
-        drive(&rt, driven, &clear_lines(*shown, text, *proof, *fits))?;
+        go(rt, driven, DENY, 4, DENIED, REFUSED)?;
     }
     Ok(())
 }
 
-/// What follows a first look at an account that then becomes this: the password was given before, and is checked on
-/// what the account has become.
-fn changed_lines(later: Shown) -> [Line<'static>; 7] {
-    [
-        (Given::Looked(Shown::Salted, 7), 2, FULL, Asked::Read(3)),
-        (
-            Given::Packet(3, b"one\x00"),
-            4,
-            b"",
-            Asked::Check(7, PASSWORD),
-        ),
-        (
-            Given::Checked,
-            4,
-            b"",
-            Asked::Settle(7, PASSWORD, FLAGS, true),
-        ),
-        (Given::Stale, 4, b"", Asked::Renew(b"nat")),
-        (Given::Looked(later, 8), 4, b"", Asked::Check(8, PASSWORD)),
-        (
-            Given::Checked,
-            4,
-            b"",
-            Asked::Settle(8, PASSWORD, FLAGS, false),
-        ),
-        (DENY, 4, DENIED, REFUSED),
-    ]
+#[test]
+fn passwords_in_the_clear(rt: HostRuntime) -> Result<(), Fail> {
+    for row in IN_THE_CLEAR {
+        check_clear(&rt, row)?;
+    }
+    Ok(())
 }
+
+/// The account becomes this behind the first look: the password was given before, and is checked on what the account
+/// has become.
+fn check_changed(rt: &(impl Abort + AllocGlobal), later: Shown) -> Result<(), Memory> {
+    let driven = drive(rt, responded(rt, FLAGS, &FAST, CACHING)?, STALE_PASSWORD)?;
+    let driven = go(
+        rt,
+        driven,
+        Given::Looked(later, 8),
+        4,
+        b"",
+        Asked::Check(8, PASSWORD),
+    )?;
+    drive(rt, driven, DENIED_PASSWORD)?;
+    Ok(())
+}
+
+const STALE_PASSWORD: &[Line<'static>] = &[
+    (Given::Looked(Shown::Salted, 7), 2, FULL, Asked::Read(3)),
+    (
+        Given::Packet(3, b"one\x00"),
+        4,
+        b"",
+        Asked::Check(7, PASSWORD),
+    ),
+    (
+        Given::Checked,
+        4,
+        b"",
+        Asked::Settle(7, PASSWORD, FLAGS, true),
+    ),
+    (Given::Stale, 4, b"", Asked::Renew(b"nat")),
+];
+
+const DENIED_PASSWORD: &[Line<'static>] = &[
+    (
+        Given::Checked,
+        4,
+        b"",
+        Asked::Settle(8, PASSWORD, FLAGS, false),
+    ),
+    (DENY, 4, DENIED, REFUSED),
+];
 
 #[test]
 fn accounts_that_change_after_the_password(rt: HostRuntime) -> Result<(), Fail> {
     for later in [Shown::Native, Shown::SaltedEmpty, Shown::Nobody] {
-        let driven = responded(&rt, FLAGS, &FAST, CACHING)?;
-        drive(&rt, driven, &changed_lines(later))?;
+        check_changed(&rt, later)?;
     }
     Ok(())
 }
@@ -337,35 +403,27 @@ const REFUSALS: &[(Reply, u16, &[u8])] = &[
     ),
 ];
 
-/// What follows a first look where the attempt is refused so.
-fn refused_lines(reply: Reply, number: u16, error: &[u8]) -> [Line; 3] {
-    [
-        (
-            Given::Looked(Shown::Native, 7),
-            2,
-            b"",
-            Asked::Check(7, RIGHT_ANSWER),
-        ),
-        (
-            Given::Checked,
-            2,
-            b"",
-            Asked::Settle(7, RIGHT_ANSWER, FLAGS, true),
-        ),
-        (
-            Given::Settled(reply),
-            2,
-            error,
-            Asked::Ended(SessionEnd::Refused { number }),
-        ),
-    ]
-}
+const A_RIGHT_ANSWER: &[Line<'static>] = &[
+    (
+        Given::Looked(Shown::Native, 7),
+        2,
+        b"",
+        Asked::Check(7, RIGHT_ANSWER),
+    ),
+    (
+        Given::Checked,
+        2,
+        b"",
+        Asked::Settle(7, RIGHT_ANSWER, FLAGS, true),
+    ),
+];
 
 #[test]
 fn each_refusal_names_its_rule(rt: HostRuntime) -> Result<(), Fail> {
     for (reply, number, error) in REFUSALS {
-        let driven = responded(&rt, FLAGS, &ANSWER, NATIVE)?;
-        drive(&rt, driven, &refused_lines(*reply, *number, error))?;
+        let driven = drive(&rt, responded(&rt, FLAGS, &ANSWER, NATIVE)?, A_RIGHT_ANSWER)?;
+        let end = Asked::Ended(SessionEnd::Refused { number: *number });
+        go(&rt, driven, Given::Settled(*reply), 2, error, end)?;
     }
     Ok(())
 }
