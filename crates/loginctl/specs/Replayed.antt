@@ -3,9 +3,9 @@ use Rattle.std.specs.Prelude.{ℕ, ◌≤◌, ◌<◌, List, [], ◌∷◌, ◌+
 use Rattle.script_text.specs.Grammar.{Spells}
 use Rattle.script_text.specs.Reading.{Contents, IsBadLine}
 use Rattle.session_world.specs.Standing.{replay_text}
-use Rattle.session_world.specs.Events.{all_printed, lines_among}
+use Rattle.session_world.specs.Events.{all_doings, all_printed, lines_among, lines_for}
 use Rattle.session_world.specs.Replays.{Replay, after_events, new_replay}
-use Rattle.session_world.specs.Transcripts.{IsHistory}
+use Rattle.session_world.specs.Transcripts.{IsHistory, IsTranscript, peer_at, session_bytes}
 
 -- the most bytes of a script
 abbrev pub longest_script : ℕ
@@ -25,6 +25,15 @@ IsLegalRun script =
     IsHistory script.setup.accounts script.setup.settings (after_events (start_of script) script.events).world.common.log
     (lines_among (all_printed (start_of script) script.events))
 
+-- what is printed of each session is a transcript of the bytes that came to it from its client or the script, however the
+-- sessions are interleaved and their bytes are cut
+abbrev pub AreTranscripts : Contents → Type 0
+AreTranscripts script =
+    (number : ℕ) →
+    IsTranscript number (peer_at ((after_events (start_of script) script.events).world.places number))
+    (session_bytes number (start_of script).world (all_doings (start_of script) script.events))
+    (lines_for number (all_printed (start_of script) script.events))
+
 -- the text for a script
 abbrev pub script_text : Contents → List ℕ
 script_text script = replay_text script.setup.accounts script.setup.settings script.events
@@ -32,7 +41,8 @@ script_text script = replay_text script.setup.accounts script.setup.settings scr
 -- The status and the text that are due for an input: a script gives the lines of its events and 0, any other input one
 -- line and 3.
 pub data IsDue (input : List ℕ) : ℕ → List ℕ → Type 0 where
-  replayed : (script : Contents) → length input ≤ longest_script → Spells input script → IsLegalRun script → IsDue input 0 (script_text script)
+  replayed : (script : Contents) → length input ≤ longest_script → Spells input script → IsLegalRun script → AreTranscripts script
+      → IsDue input 0 (script_text script)
   refused : (line : ℕ) → length input ≤ longest_script → ((script : Contents) → Spells input script → ⊥) → IsBadLine input line
       → IsDue input 3 (bad_line line)
   overlong : longest_script < length input → IsDue input 3 (bad_line 0)

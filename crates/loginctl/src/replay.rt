@@ -8,7 +8,7 @@ use crate::printing::add_number;
 use lg_base::{Memory, Out};
 use script_text::{Script, ScriptFault};
 use session_world::World;
-use session_world::laws::histories_are_legal;
+use session_world::laws::{histories_are_legal, sessions_are_transcripts};
 use std::alloc::Global;
 
 /// The most bytes of a script.
@@ -64,8 +64,10 @@ pub fn due_for(alloc: Global, input: &[u8]) -> Result<Outcome, Memory>
     if input.len() > LONGEST_SCRIPT {
         return refused(alloc, 0);
     }
-    // The law: the entries that a script's events print are a legal history.
+    // The laws: the entries that a script's events print are a legal history, and what they print of each session is a
+    // transcript.
     histories_are_legal();
+    sessions_are_transcripts();
     match Script::read(alloc, input) {
         Ok(script) => Ok(Outcome {
             status: 0,
