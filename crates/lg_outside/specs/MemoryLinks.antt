@@ -1,5 +1,5 @@
--- A link in memory: its bytes, the room for what is written, where its peer is, whether it was ended, and the
--- plan of its failures.
+-- A link in memory: its bytes, the room for what is written, where its peer is, the paths that were dialled, whether
+-- it was ended, and the plan of its failures.
 use Rattle.std.specs.Prelude.{ℕ, List, Bool}
 use Rattle.lg_outside.specs.PlanOf.{Plan}
 use Rattle.lg_outside.specs.Traffic.{Traffic}
@@ -10,6 +10,7 @@ pub record Wire : Type 0 where
   pub written : List ℕ
   pub room : ℕ
   pub local : Bool
+  pub dialled : List (List ℕ)
   pub finished : Bool
   pub plan : Plan
 

@@ -14,3 +14,7 @@ came t = t.read ++ t.left
 -- a link that tells nothing of its bytes
 abbrev pub untold : Option Traffic
 untold = None
+
+-- a link that tells nothing of what was dialled
+abbrev pub untold_paths : Option (List (List ℕ))
+untold_paths = None

@@ -1,9 +1,9 @@
 //! Connections: a link is read and written, and ended once.
 
 ghost use Rattle.lg_outside.specs.Faults.{Rose};
-ghost use Rattle.lg_outside.specs.Links.{Receives, Sends};
+ghost use Rattle.lg_outside.specs.Links.{Dials, Receives, Sends};
 ghost use Rattle.lg_outside.specs.Traffic.{Traffic};
-ghost use Rattle.std.specs.Prelude.{◌≡◌, ℕ, ◌<◌, ◌≤◌, Bool, true, false, length, Option, IfOk, OnErr};
+ghost use Rattle.std.specs.Prelude.{◌≡◌, ℕ, ◌<◌, ◌≤◌, Bool, true, false, length, List, Option, IfOk, OnErr};
 
 use crate::streams::Failed;
 
@@ -15,6 +15,10 @@ pub trait Link {
 
     // Whether the peer is on this machine. No call changes it.
     ghost local: { Self → Bool };
+
+    // The paths that were dialled with success, the latest last, where the link tells them. `dial` alone changes
+    // them.
+    ghost dialled: { Self → Option (List (List ℕ)) };
 
     // Whether the link was ended, which `finish` alone does.
     ghost finished: { Self → Bool };
@@ -29,6 +33,7 @@ pub trait Link {
         ensures within { IfOk result (λ count. count ≤ length buf.new) }
         ensures bytes { Receives (told self.old) (told self.new) result buf.new }
         ensures place { local self.new ≡ local self.old }
+        ensures dialled { dialled self.new ≡ dialled self.old }
         ensures stays { finished self.new ≡ false }
         ensures cause { OnErr result (Rose (fault_count self.old) (fault_count self.new)) }
         ensures rising { fault_count self.old ≤ fault_count self.new };
@@ -38,6 +43,7 @@ pub trait Link {
         requires { finished self.old ≡ false }
         ensures bytes { Sends (told self.old) (told self.new) result bytes.now }
         ensures place { local self.new ≡ local self.old }
+        ensures dialled { dialled self.new ≡ dialled self.old }
         ensures stays { finished self.new ≡ false }
         ensures cause { OnErr result (Rose (fault_count self.old) (fault_count self.new)) }
         ensures rising { fault_count self.old ≤ fault_count self.new };
@@ -51,6 +57,7 @@ pub trait Link {
         ensures done { finished self.new ≡ true }
         ensures bytes { told self.new ≡ told self.old }
         ensures place { local self.new ≡ local self.old }
+        ensures dialled { dialled self.new ≡ dialled self.old }
         ensures faults { fault_count self.new ≡ fault_count self.old };
 
     /// How many faults there were. It never falls.
@@ -62,6 +69,7 @@ pub trait Link {
 pub trait Dial: Link {
     /// Connects to the server that listens at the path. After `Failed` it may be called again.
     fn dial(&mut self, path: &str) -> Result<(), Failed>
+        ensures dialled { Dials (Self.dialled self.old) (Self.dialled self.new) result path.now }
         ensures bytes { Self.told self.new ≡ Self.told self.old }
         ensures place { Self.local self.new ≡ Self.local self.old }
         ensures stays { Self.finished self.new ≡ Self.finished self.old }

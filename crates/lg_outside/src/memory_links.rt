@@ -1,26 +1,29 @@
 //! A link in memory, which tells its bytes to contracts.
 
 ghost use Rattle.lg_outside.specs.Faults.{Rose};
-ghost use Rattle.lg_outside.specs.Links.{Receives, Sends};
+ghost use Rattle.lg_outside.specs.Links.{Dials, Receives, Sends};
 ghost use Rattle.lg_outside.specs.MemoryLinks.{traffic};
 ghost use Rattle.lg_outside.specs.Plan.{after_call, fails_next};
-ghost use Rattle.std.specs.Prelude.{◌≡◌, ◌<◌, ◌≤◌, ◌-◌, ◌||◌, Some, [], false, true, IfOk, OnErr, is_err, length, min, nat_lt};
+ghost use Rattle.std.specs.Prelude.{◌≡◌, ◌<◌, ◌≤◌, ◌-◌, ◌||◌, Some, [], ◌∷◌, ◌++◌, false, true, IfOk, OnErr, is_err, length, min, nat_lt};
 
 use crate::links::{Dial, Link};
 use crate::memory_parts::{Room, Unread};
 use crate::planned_faults::PlannedFaults;
 use crate::streams::Failed;
+use ghost_value::{Denotes, GhostValue};
 use lg_base::{Bytes, Items, Memory};
 use std::alloc::Global;
 use std::marker::Model;
 
 /// A link whose peer sent the bytes that it was made with, and that has room for a number of bytes to be
-/// written. It fails at listed calls of `read`, `write_all` and `dial`, and where the room is short.
-#[derive(Debug, Drop)]
+/// written. It fails at listed calls of `read`, `write_all` and `dial`, and where the room is short. The paths that
+/// are dialled are kept for contracts alone.
+#[derive(Drop)]
 pub struct MemoryLink {
     unread: Unread,
     store: Room,
     is_local: bool,
+    dialled: GhostValue<Items<Bytes>>,
     is_finished: bool,
     plan: PlannedFaults,
 }
@@ -36,6 +39,7 @@ impl Model for MemoryLink {
       written = s.store.bytes;
       room = s.store.room;
       local = s.is_local;
+      dialled = s.dialled.value;
       finished = s.is_finished;
       plan = s.plan;
     } };
@@ -57,6 +61,7 @@ impl MemoryLink {
           written = [];
           room = room;
           local = is_local;
+          dialled = [];
           finished = false;
           plan = record { failing = failing; calls = 0; faults = 0 };
         }) }
@@ -65,6 +70,7 @@ impl MemoryLink {
             unread: Unread::new(bytes),
             store: Room::new(alloc, room)?,
             is_local,
+            dialled: GhostValue::of(&NoDial),
             is_finished: false,
             plan: PlannedFaults::new(failing),
         })
@@ -83,6 +89,8 @@ impl Link for MemoryLink {
 
     ghost local = { λ s. s.local };
 
+    ghost dialled = { λ s. Some s.dialled };
+
     ghost finished = { λ s. s.finished };
 
     ghost fault_count = { λ s. s.plan.faults };
@@ -94,6 +102,7 @@ impl Link for MemoryLink {
         ensures within { IfOk result (λ count. count ≤ length buf.new) }
         ensures bytes { Receives (Some (traffic self.old)) (Some (traffic self.new)) result buf.new }
         ensures place { self.new.local ≡ self.old.local }
+        ensures dialled { Some self.new.dialled ≡ Some self.old.dialled }
         ensures stays { self.new.finished ≡ false }
         ensures cause { OnErr result (Rose self.old.plan.faults self.new.plan.faults) }
         ensures rising { self.old.plan.faults ≤ self.new.plan.faults }
@@ -115,6 +124,7 @@ impl Link for MemoryLink {
         requires { self.old.finished ≡ false }
         ensures bytes { Sends (Some (traffic self.old)) (Some (traffic self.new)) result bytes.now }
         ensures place { self.new.local ≡ self.old.local }
+        ensures dialled { Some self.new.dialled ≡ Some self.old.dialled }
         ensures stays { self.new.finished ≡ false }
         ensures cause { OnErr result (Rose self.old.plan.faults self.new.plan.faults) }
         ensures rising { self.old.plan.faults ≤ self.new.plan.faults }
@@ -139,6 +149,7 @@ impl Link for MemoryLink {
         ensures done { self.new ≡ record self.old { finished = true } }
         ensures bytes { traffic self.new ≡ traffic self.old }
         ensures place { self.new.local ≡ self.old.local }
+        ensures dialled { Some self.new.dialled ≡ Some self.old.dialled }
         ensures faults { self.new.plan.faults ≡ self.old.plan.faults }
     {
         self.is_finished = true;
@@ -150,8 +161,9 @@ impl Link for MemoryLink {
 }
 
 impl Dial for MemoryLink {
-    // It fails at the listed calls alone, whatever the path, and changes nothing but the plan.
-    fn dial(&mut self, _path: &str) -> Result<(), Failed>
+    // It fails at the listed calls alone, whatever the path, and changes nothing but the plan and what was dialled.
+    fn dial(&mut self, path: &str) -> Result<(), Failed>
+        ensures dialled { Dials (Some self.old.dialled) (Some self.new.dialled) result path.now }
         ensures bytes { Some (traffic self.new) ≡ Some (traffic self.old) }
         ensures place { self.new.local ≡ self.old.local }
         ensures stays { self.new.finished ≡ self.old.finished }
@@ -159,11 +171,32 @@ impl Dial for MemoryLink {
         ensures rising { self.old.plan.faults ≤ self.new.plan.faults }
 
         ensures fails { is_err result ≡ fails_next self.old.plan }
-        ensures after { self.new ≡ record self.old { plan = after_call self.old.plan (is_err result) } }
+        ensures after { self.new ≡ record self.old { dialled = self.new.dialled; plan = after_call self.old.plan (is_err result) } }
     {
         if self.plan.next_fails(false) {
             return Err(Failed);
         }
+        let dialled = &self.dialled;
+        self.dialled = GhostValue::of(&DialNote { dialled, path });
         Ok(())
     }
+}
+
+/// No path.
+#[derive(Drop)]
+struct NoDial;
+
+impl Denotes<Items<Bytes>> for NoDial {
+    ghost denoted = { λ _. [] };
+}
+
+/// One path more.
+#[derive(Drop)]
+struct DialNote<'a> {
+    dialled: &'a GhostValue<Items<Bytes>>,
+    path: &'a str,
+}
+
+impl<'a> Denotes<Items<Bytes>> for DialNote<'a> {
+    ghost denoted = { λ n. n.dialled.now.value ++ n.path.now ∷ [] };
 }

@@ -1,9 +1,9 @@
 //! A link over a Unix stream socket, whose peer is always on this machine. It tells nothing of content.
 
 ghost use Rattle.lg_outside.specs.Faults.{Rose, counted};
-ghost use Rattle.lg_outside.specs.Links.{Receives, Sends};
-ghost use Rattle.lg_outside.specs.Traffic.{untold};
-ghost use Rattle.std.specs.Prelude.{◌≡◌, ◌<◌, ◌≤◌, if◌then◌else◌, IfOk, None, OnErr, false, true, is_err, length};
+ghost use Rattle.lg_outside.specs.Links.{Dials, Receives, Sends};
+ghost use Rattle.lg_outside.specs.Traffic.{untold, untold_paths};
+ghost use Rattle.std.specs.Prelude.{◌≡◌, ◌<◌, ◌≤◌, if◌then◌else◌, IfOk, IsSome, None, OnErr, OnOk, false, true, is_err, length};
 
 use crate::links::{Dial, Link};
 use crate::standard_streams::write_whole;
@@ -52,6 +52,7 @@ impl<N> UnixLink<N> {
         ensures count { self.new.faults ≡ counted self.old.faults }
         ensures rising { self.old.faults ≤ self.new.faults }
         ensures stays { self.new.is_finished ≡ self.old.is_finished }
+        ensures stream { self.new.stream ≡ self.old.stream }
     {
         self.faults = self.faults.saturating_add(1);
         Failed
@@ -62,6 +63,8 @@ impl<N> Link for UnixLink<N> {
     ghost told = { λ _. untold };
 
     ghost local = { λ _. true };
+
+    ghost dialled = { λ _. untold_paths };
 
     ghost finished = { λ s. s.is_finished };
 
@@ -74,6 +77,7 @@ impl<N> Link for UnixLink<N> {
         ensures within { IfOk result (λ count. count ≤ length buf.new) }
         ensures bytes { Receives untold untold result buf.new }
         ensures place { true ≡ true }
+        ensures dialled { untold_paths ≡ untold_paths }
         ensures stays { self.new.is_finished ≡ false }
         ensures cause { OnErr result (Rose self.old.faults self.new.faults) }
         ensures rising { self.old.faults ≤ self.new.faults }
@@ -92,6 +96,7 @@ impl<N> Link for UnixLink<N> {
         requires { self.old.is_finished ≡ false }
         ensures bytes { Sends untold untold result bytes.now }
         ensures place { true ≡ true }
+        ensures dialled { untold_paths ≡ untold_paths }
         ensures stays { self.new.is_finished ≡ false }
         ensures cause { OnErr result (Rose self.old.faults self.new.faults) }
         ensures rising { self.old.faults ≤ self.new.faults }
@@ -113,6 +118,7 @@ impl<N> Link for UnixLink<N> {
         ensures done { self.new.is_finished ≡ true }
         ensures bytes { untold ≡ untold }
         ensures place { true ≡ true }
+        ensures dialled { untold_paths ≡ untold_paths }
         ensures faults { self.new.faults ≡ self.old.faults }
 
         ensures closed { self.new.stream ≡ None }
@@ -128,7 +134,18 @@ impl<N> Link for UnixLink<N> {
 
 impl<N: Net> Dial for UnixLink<N> {
     // It connects a new stream, in place of the one that it had. An error leaves that one.
-    fn dial(&mut self, path: &str) -> Result<(), Failed> {
+    fn dial(&mut self, path: &str) -> Result<(), Failed>
+        ensures dialled { Dials untold_paths untold_paths result path.now }
+        ensures bytes { untold ≡ untold }
+        ensures place { true ≡ true }
+        ensures stays { self.new.is_finished ≡ self.old.is_finished }
+        ensures cause { OnErr result (Rose self.old.faults self.new.faults) }
+        ensures rising { self.old.faults ≤ self.new.faults }
+
+        ensures count { self.new.faults ≡ (if is_err result then counted self.old.faults else self.old.faults) }
+        ensures connected { OnOk result (IsSome self.new.stream) }
+        ensures kept { OnErr result (self.new.stream ≡ self.old.stream) }
+    {
         match UnixStream::connect(&self.net, path) {
             Ok(stream) => {
                 self.stream = Some(stream);

@@ -47,6 +47,7 @@ fn read_packet<L: Link>(link: &mut L, frames: &mut Frames) -> Result<Packet, Log
         IfErr result (λ end. Stops id place (L.told link.old) (L.told link.new) (Rose (L.fault_count link.old) (L.fault_count link.new)) end) }
     ensures stays { L.finished link.new ≡ false }
     ensures place { L.local link.new ≡ L.local link.old }
+    ensures dialled { L.dialled link.new ≡ L.dialled link.old }
     ensures rising { L.fault_count link.old ≤ L.fault_count link.new }
 {
     let mut piece = [0u8; PIECE];
@@ -77,6 +78,7 @@ fn send<L: Link>(alloc: Global, link: &mut L, first: u8, payload: &[u8]) -> Resu
     ensures cut { IfErr result (λ end. Fails first payload.now (L.told link.old) (L.told link.new) (Rose (L.fault_count link.old) (L.fault_count link.new)) end) }
     ensures stays { L.finished link.new ≡ false }
     ensures place { L.local link.new ≡ L.local link.old }
+    ensures dialled { L.dialled link.new ≡ L.dialled link.old }
     ensures rising { L.fault_count link.old ≤ L.fault_count link.new }
 {
     let mut text = Out::new(alloc);
@@ -106,6 +108,7 @@ fn turn<L: Link>(
         IfSome result (λ end. EndsAs (talk_of client.old) id place (L.told link.old) (L.told link.new) (Rose (L.fault_count link.old) (L.fault_count link.new)) end) }
     ensures stays { L.finished link.new ≡ false }
     ensures place { L.local link.new ≡ L.local link.old }
+    ensures dialled { L.dialled link.new ≡ L.dialled link.old }
     ensures rising { L.fault_count link.old ≤ L.fault_count link.new }
 {
     let packet = match read_packet(link, frames) {
@@ -156,6 +159,7 @@ pub fn login<L: Link>(
     })) 0 0 (L.told link.old) (L.told link.new) (Rose (L.fault_count link.old) (L.fault_count link.new)) result }
     ensures stays { L.finished link.new ≡ false }
     ensures place { L.local link.new ≡ L.local link.old }
+    ensures dialled { L.dialled link.new ≡ L.dialled link.old }
     ensures rising { L.fault_count link.old ≤ L.fault_count link.new }
 {
     let mut client = match Client::new(alloc, user, secrets, options, link.is_local()) {

@@ -1,6 +1,8 @@
 -- A login by what words choose.
-use Rattle.std.proofs.Common.{◌≡◌, refl, sym, ap, ◌∙◌, subst, ℕ, List, [], Bool, true, false, Option, Some, None, IfSome, arith}
+use Rattle.std.proofs.Common.{◌≡◌, ◌≤◌, refl, sym, ap, ◌∙◌, subst, ℕ, List, [], Bool, true, false, Option, Some, None, IfSome, arith}
 use Rattle.std.specs.Prelude.{IsSomeAnd, unwrap_or}
+use Rattle.lg_outside.specs.Faults.{Rose}
+use Rattle.lg_outside.specs.Links.{dialled_also}
 use Rattle.lg_outside.specs.Traffic.{Traffic}
 use Rattle.login_client.specs.Claims.{AreFit, AreUsable}
 use Rattle.login_client.specs.Conversation.{conversation}
@@ -12,7 +14,8 @@ use Rattle.login_client.specs.declared.claims.Secrets.{Secrets}
 use Rattle.login_client.specs.declared.claims.ClientOptions.{ClientOptions}
 use Rattle.login_client.specs.declared.ends.LoginEnd.{LoginEnd}
 use Rattle.loginctl.specs.LoginWords.{Choice, IsFit, IsName}
-use Rattle.loginctl.specs.Logins.{LogsIn, claim_of, flags_of, options_of, secrets_of, talked}
+use Rattle.loginctl.specs.Logins.{LogsIn, claim_of, flags_of, options_of, path_of, secrets_of, talked}
+use Rattle.loginctl.specs.Outsides.{LinkState}
 
 no-zero-in-nothing : HasNoZero []
 no-zero-in-nothing (k, lt, is) = omega arith
@@ -49,17 +52,19 @@ ends-weaker talk id place before after Rises Rose _ up (failed got sent count st
 ends-weaker talk id place before after Rises Rose _ up (no_memory got more sent count stand moved x) = no_memory got more sent count stand moved x
 
 -- the client's login is the login of the choice
-pub logs-in : (choice : Choice) (local local' : Bool) (before middle after : Option Traffic) (Rises Rose : Type 0) (end : LoginEnd) (user : List ℕ) (secrets : Secrets) (options : ClientOptions)
-    → user ≡ unwrap_or choice.user [] → secrets ≡ secrets_of choice → options ≡ options_of choice → local' ≡ local → middle ≡ before → (Rises → Rose)
-    → EndsAs (conversation (record { user = user; secrets = secrets; options = options; local = local' })) 0 0 middle after Rises end
-    → LogsIn choice local before after Rose end
-logs-in choice local local' before middle after Rises Rose end user secrets options user-is secrets-are options-are local-is same up ends =
+pub logs-in : (choice : Choice) (local local' : Bool) (before middle after : LinkState) (end : LoginEnd) (path user : List ℕ) (secrets : Secrets) (options : ClientOptions)
+    → path ≡ path_of choice → user ≡ unwrap_or choice.user [] → secrets ≡ secrets_of choice → options ≡ options_of choice → local' ≡ local
+    → middle.told ≡ before.told → middle.dialled ≡ dialled_also path before.dialled → after.dialled ≡ middle.dialled → before.faults ≤ middle.faults
+    → EndsAs (conversation (record { user = user; secrets = secrets; options = options; local = local' })) 0 0 middle.told after.told (Rose middle.faults after.faults) end
+    → LogsIn choice local before after end
+logs-in choice local local' before middle after end path user secrets options path-is user-is secrets-are options-are local-is same dialled stays rising ends =
     let claim-is : (let c : Claim = record { user = user; secrets = secrets; options = options; local = local' } in c) ≡ claim_of choice local =
     ap (λ (u : List ℕ). let c : Claim = record { user = u; secrets = secrets; options = options; local = local' } in c) user-is
     ∙ ap (λ (s : Secrets). let c : Claim = record { user = unwrap_or choice.user []; secrets = s; options = options; local = local' } in c) secrets-are
     ∙ ap (λ (o : ClientOptions). let c : Claim = record { user = unwrap_or choice.user []; secrets = secrets_of choice; options = o; local = local' } in c) options-are
     ∙ ap (λ (l : Bool). claim_of choice l) local-is in
     talked end
-    (ends-weaker (conversation (claim_of choice local)) 0 0 before after Rises Rose end up
-    (subst (λ (c : Claim). EndsAs (conversation c) 0 0 before after Rises end) claim-is
-    (subst (λ (told : Option Traffic). EndsAs (conversation (record { user = user; secrets = secrets; options = options; local = local' })) 0 0 told after Rises end) same ends)))
+    (stays ∙ dialled ∙ ap (λ (p : List ℕ). dialled_also p before.dialled) path-is)
+    (ends-weaker (conversation (claim_of choice local)) 0 0 before.told after.told (Rose middle.faults after.faults) (Rose before.faults after.faults) end (λ rises. omega (arith, rises, rising))
+    (subst (λ (c : Claim). EndsAs (conversation c) 0 0 before.told after.told (Rose middle.faults after.faults) end) claim-is
+    (subst (λ (told : Option Traffic). EndsAs (conversation (record { user = user; secrets = secrets; options = options; local = local' })) 0 0 told after.told (Rose middle.faults after.faults) end) same ends)))

@@ -3,6 +3,7 @@ pub mod Input
 pub mod Listing
 pub mod LoginWords
 pub mod Logins
+pub mod Outsides
 pub mod Printing
 pub mod Replayed
 pub mod Tool

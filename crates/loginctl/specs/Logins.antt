@@ -1,6 +1,7 @@
 -- What `login` does and prints: the client's result in words, and a status.
 use Rattle.std.specs.Prelude.{◌≡◌, ℕ, Bool, List, [], ◌++◌, ◌∷◌, Option, unwrap_or, if◌then◌else◌}
-use Rattle.lg_outside.specs.Traffic.{Traffic}
+use Rattle.lg_outside.specs.Faults.{Rose}
+use Rattle.lg_outside.specs.Links.{dialled_also}
 use Rattle.login_client.specs.Conversation.{conversation}
 use Rattle.login_client.specs.Exchange.{EndsAs}
 use Rattle.login_client.specs.declared.claims.Claim.{Claim}
@@ -10,7 +11,12 @@ use Rattle.login_client.specs.declared.ends.LoginEnd.{LoginEnd}
 use Rattle.login_client.specs.declared.ends.LoginEnd.TheVariants.{Opened, Refused, Malformed, Framing, WontSend, PeerClosed, LinkFault, Memory}
 use Rattle.client_wire.specs.Words.{end_words}
 use Rattle.loginctl.specs.LoginWords.{Choice}
+use Rattle.loginctl.specs.Outsides.{LinkState}
 use Rattle.loginctl.specs.Printing.{Printed, Wrote}
+
+-- the path of the server's socket
+abbrev pub path_of : Choice → List ℕ
+path_of c = unwrap_or c.socket []
 
 -- the secrets of a choice; without a password the first one is empty
 abbrev pub secrets_of : Choice → Secrets
@@ -40,22 +46,23 @@ login_status PeerClosed = 7
 login_status LinkFault = 4
 login_status Memory = 6
 
--- how a login over a link ended, by what the link told before and after and by whether its count of faults rose
-pub data LogsIn (choice : Choice) (local : Bool) (before after : Option Traffic) (Rises : Type 0) : LoginEnd → Type 0 where
+-- how a login over a link ended, by the link before and after it
+pub data LogsIn (choice : Choice) (local : Bool) (before after : LinkState) : LoginEnd → Type 0 where
   -- the link could not be connected
-  undialled : after ≡ before → Rises → LogsIn choice local before after Rises LinkFault
+  undialled : after.told ≡ before.told → after.dialled ≡ before.dialled → Rose before.faults after.faults → LogsIn choice local before after LinkFault
   -- there was no memory for what the client needs
-  unmade : after ≡ before → LogsIn choice local before after Rises Memory
-  talked : (end : LoginEnd) → EndsAs (conversation (claim_of choice local)) 0 0 before after Rises end → LogsIn choice local before after Rises end
+  unmade : after ≡ before → LogsIn choice local before after Memory
+  -- it was connected, once and to the path of the words
+  talked : (end : LoginEnd) → after.dialled ≡ dialled_also (path_of choice) before.dialled
+      → EndsAs (conversation (claim_of choice local)) 0 0 before.told after.told (Rose before.faults after.faults) end → LogsIn choice local before after end
 
 abbrev pub IsTold : LoginEnd → Type 0
 IsTold Memory = ⊥
 IsTold _ = Unit {0}
 
--- What `login` answers, by what the link told before and after, what was written before and after, and whether the
--- counts of faults rose.
-pub data AnswersLogin (choice : Choice) (local : Bool) (before after : Option Traffic) (LinkRose : Type 0) (out out' : Option (List ℕ)) (SinkRose : Type 0) : ℕ → Type 0 where
-  told : (end : LoginEnd) (result : ℕ) → LogsIn choice local before after LinkRose end → IsTold end
-      → Printed out out' SinkRose (login_status end) (login_line end) result → AnswersLogin choice local before after LinkRose out out' SinkRose result
-  no_memory : (end : LoginEnd) → LogsIn choice local before after LinkRose end → Wrote out out' []
-      → AnswersLogin choice local before after LinkRose out out' SinkRose 6
+-- What `login` answers, by the link before and after, what was written before and after, and whether the sink's count of
+-- faults rose.
+pub data AnswersLogin (choice : Choice) (local : Bool) (before after : LinkState) (out out' : Option (List ℕ)) (SinkRose : Type 0) : ℕ → Type 0 where
+  told : (end : LoginEnd) (result : ℕ) → LogsIn choice local before after end → IsTold end
+      → Printed out out' SinkRose (login_status end) (login_line end) result → AnswersLogin choice local before after out out' SinkRose result
+  no_memory : (end : LoginEnd) → LogsIn choice local before after end → Wrote out out' [] → AnswersLogin choice local before after out out' SinkRose 6

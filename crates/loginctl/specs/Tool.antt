@@ -1,10 +1,11 @@
 -- What the words and the input of `loginctl` are answered.
 use Rattle.std.specs.Prelude.{◌≡◌, Bool, true, false, ℕ, List, [], ◌∷◌, ◌++◌, codes, Option, Some, None}
 use Rattle.std.specs.Str.{bytes_eq}
-use Rattle.lg_outside.specs.Traffic.{Traffic}
+use Rattle.lg_outside.specs.Faults.{Rose}
 use Rattle.loginctl.specs.Frames.{AnswersFrames}
 use Rattle.loginctl.specs.LoginWords.{Choice, Chooses}
 use Rattle.loginctl.specs.Logins.{AnswersLogin}
+use Rattle.loginctl.specs.Outsides.{LinkState, SourceState}
 use Rattle.loginctl.specs.Printing.{Printed, Wrote}
 use Rattle.loginctl.specs.Replayed.{IsDue}
 
@@ -27,31 +28,32 @@ abbrev pub Due : Option (List ℕ) → ℕ → List ℕ → Type 0
 Due None status text = (input : List ℕ) × IsDue input status text
 Due (Some input) status text = IsDue input status text
 
--- What words answer that are neither `replay` nor `frames`, by what the link told before and after, what was written
--- before and after, and whether the counts of faults rose.
-pub data AnswersOther (words : List (List ℕ)) (local : Bool) (told told' : Option Traffic) (LinkRose : Type 0) (before after : Option (List ℕ)) (SinkRose : Type 0) : ℕ → Type 0 where
+-- What words answer that are neither `replay` nor `frames`, by the link before and after, what was written before and
+-- after, and whether the sink's count of faults rose.
+pub data AnswersOther (words : List (List ℕ)) (local : Bool) (link link' : LinkState) (before after : Option (List ℕ)) (SinkRose : Type 0) : ℕ → Type 0 where
   -- they are those of a login
-  login : (choice : Choice) (result : ℕ) → Chooses words choice → AnswersLogin choice local told told' LinkRose before after SinkRose result
-      → AnswersOther words local told told' LinkRose before after SinkRose result
+  login : (choice : Choice) (result : ℕ) → Chooses words choice → AnswersLogin choice local link link' before after SinkRose result
+      → AnswersOther words local link link' before after SinkRose result
   -- they are of no form
-  usage : (result : ℕ) → ((choice : Choice) → Chooses words choice → ⊥) → told' ≡ told → Printed before after SinkRose 2 usage_text result
-      → AnswersOther words local told told' LinkRose before after SinkRose result
+  usage : (result : ℕ) → ((choice : Choice) → Chooses words choice → ⊥) → link' ≡ link → Printed before after SinkRose 2 usage_text result
+      → AnswersOther words local link link' before after SinkRose result
   -- there was no memory to read them
-  unread : told' ≡ told → Wrote before after [] → AnswersOther words local told told' LinkRose before after SinkRose 6
+  unread : link' ≡ link → Wrote before after [] → AnswersOther words local link link' before after SinkRose 6
 
--- What a run answers, by its words, the bytes that the source told, what the link told and what was written before and
--- after, and whether the counts of faults rose.
-pub data Answers (words : List (List ℕ)) (left : Option (List ℕ)) (local : Bool) (told told' : Option Traffic) (before after : Option (List ℕ)) (SourceRose LinkRose SinkRose : Type 0) : ℕ → Type 0 where
+-- What a run answers, by its words, the source and the link before and after, what was written before and after, and
+-- whether the sink's count of faults rose. Only a login touches the link, and it leaves the source.
+pub data Answers (words : List (List ℕ)) (source source' : SourceState) (local : Bool) (link link' : LinkState) (before after : Option (List ℕ)) (SinkRose : Type 0) : ℕ → Type 0 where
   -- the words are neither `replay` nor `frames`
-  other : (result : ℕ) → is_replay_words words ≡ false → is_frames_words words ≡ false → AnswersOther words local told told' LinkRose before after SinkRose result
-      → Answers words left local told told' before after SourceRose LinkRose SinkRose result
+  other : (result : ℕ) → is_replay_words words ≡ false → is_frames_words words ≡ false → source' ≡ source → AnswersOther words local link link' before after SinkRose result
+      → Answers words source source' local link link' before after SinkRose result
   -- packets are listed
-  frames : (result : ℕ) → is_frames_words words ≡ true → told' ≡ told → AnswersFrames left before after SourceRose SinkRose result
-      → Answers words left local told told' before after SourceRose LinkRose SinkRose result
+  frames : (result : ℕ) → is_frames_words words ≡ true → link' ≡ link → AnswersFrames source.left before after (Rose source.faults source'.faults) SinkRose result
+      → Answers words source source' local link link' before after SinkRose result
   -- the script was read to its end, or past the limit
-  ran : (result status : ℕ) (text : List ℕ) → is_replay_words words ≡ true → told' ≡ told → Due left status text
-      → Printed before after SinkRose status text result → Answers words left local told told' before after SourceRose LinkRose SinkRose result
+  ran : (result status : ℕ) (text : List ℕ) → is_replay_words words ≡ true → link' ≡ link → Due source.left status text
+      → Printed before after SinkRose status text result → Answers words source source' local link link' before after SinkRose result
   -- the source failed
-  source_fault : is_replay_words words ≡ true → told' ≡ told → SourceRose → Wrote before after [] → Answers words left local told told' before after SourceRose LinkRose SinkRose 4
+  source_fault : is_replay_words words ≡ true → link' ≡ link → Rose source.faults source'.faults → Wrote before after []
+      → Answers words source source' local link link' before after SinkRose 4
   -- there was no memory
-  no_memory : is_replay_words words ≡ true → told' ≡ told → Wrote before after [] → Answers words left local told told' before after SourceRose LinkRose SinkRose 6
+  no_memory : is_replay_words words ≡ true → link' ≡ link → Wrote before after [] → Answers words source source' local link link' before after SinkRose 6

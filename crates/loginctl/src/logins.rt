@@ -4,7 +4,7 @@ ghost use Rattle.lg_outside.specs.Faults.{Rose};
 ghost use Rattle.login_client.specs.Claims.{AreFit, AreUsable};
 ghost use Rattle.login_client.specs.Exchange.{EndsAs};
 ghost use Rattle.loginctl.specs.LoginWords.{IsFit, choice_of, text_of};
-ghost use Rattle.loginctl.specs.Logins.{AnswersLogin, LogsIn, login_line, login_status, options_of, secrets_of, IsTold};
+ghost use Rattle.loginctl.specs.Logins.{AnswersLogin, LogsIn, login_line, login_status, options_of, path_of, secrets_of, IsTold};
 ghost use Rattle.std.specs.Prelude.{◌≡◌, ◌≤◌, ◌++◌, [], ◌↔◌, IsTrue, IfOk, false, unwrap_or};
 
 use crate::login_words::Chosen;
@@ -74,8 +74,15 @@ fn options_of(chosen: &Chosen) -> ClientOptions
 fn log_in<L: Dial>(alloc: Global, chosen: &Chosen, link: &mut L) -> LoginEnd
     requires open { L.finished link.old ≡ false }
     requires fit { IsFit (choice_of chosen.now) }
-    ensures ends { LogsIn (choice_of chosen.now) (L.local link.old) (L.told link.old) (L.told link.new)
-        (Rose (L.fault_count link.old) (L.fault_count link.new)) result }
+    ensures ends { LogsIn (choice_of chosen.now) (L.local link.old) (record {
+      told = L.told link.old;
+      dialled = L.dialled link.old;
+      faults = L.fault_count link.old;
+    }) (record {
+      told = L.told link.new;
+      dialled = L.dialled link.new;
+      faults = L.fault_count link.new;
+    }) result }
     ensures stays { L.finished link.new ≡ false }
     ensures place { L.local link.new ≡ L.local link.old }
     ensures rising { L.fault_count link.old ≤ L.fault_count link.new }
@@ -93,7 +100,10 @@ fn log_in<L: Dial>(alloc: Global, chosen: &Chosen, link: &mut L) -> LoginEnd
 }
 
 /// The path of the socket.
-fn path_of(chosen: &Chosen) -> &str {
+#[tactic(auto, unfolding(crate::specs::LoginWords::choice_of))]
+fn path_of(chosen: &Chosen) -> &str
+    ensures { result.now ≡ path_of (choice_of chosen.now) }
+{
     match &chosen.socket {
         Some(path) => path.as_str(),
         None => "",
@@ -142,8 +152,15 @@ pub fn print_login<W: Sink, L: Dial>(
 ) -> u8
     requires open { L.finished link.old ≡ false }
     requires fit { IsFit (choice_of chosen.now) }
-    ensures answer { AnswersLogin (choice_of chosen.now) (L.local link.old) (L.told link.old) (L.told link.new) (Rose (L.fault_count link.old) (L.fault_count link.new))
-        (W.written out.old) (W.written out.new) (Rose (W.fault_count out.old) (W.fault_count out.new)) result }
+    ensures answer { AnswersLogin (choice_of chosen.now) (L.local link.old) (record {
+      told = L.told link.old;
+      dialled = L.dialled link.old;
+      faults = L.fault_count link.old;
+    }) (record {
+      told = L.told link.new;
+      dialled = L.dialled link.new;
+      faults = L.fault_count link.new;
+    }) (W.written out.old) (W.written out.new) (Rose (W.fault_count out.old) (W.fault_count out.new)) result }
     ensures stays { L.finished link.new ≡ false }
     ensures place { L.local link.new ≡ L.local link.old }
     ensures link { L.fault_count link.old ≤ L.fault_count link.new }

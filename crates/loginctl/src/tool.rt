@@ -50,8 +50,15 @@ fn login_or_usage<W: Sink, L: Dial>(
     link: &mut L,
 ) -> u8
     requires { L.finished link.old ≡ false }
-    ensures answer { AnswersOther (map string_bytes words.now) (L.local link.old) (L.told link.old) (L.told link.new)
-        (Rose (L.fault_count link.old) (L.fault_count link.new)) (W.written out.old) (W.written out.new) (Rose (W.fault_count out.old) (W.fault_count out.new)) result }
+    ensures answer { AnswersOther (map string_bytes words.now) (L.local link.old) (record {
+      told = L.told link.old;
+      dialled = L.dialled link.old;
+      faults = L.fault_count link.old;
+    }) (record {
+      told = L.told link.new;
+      dialled = L.dialled link.new;
+      faults = L.fault_count link.new;
+    }) (W.written out.old) (W.written out.new) (Rose (W.fault_count out.old) (W.fault_count out.new)) result }
     ensures stays { L.finished link.new ≡ false }
     ensures place { L.local link.new ≡ L.local link.old }
     ensures link { L.fault_count link.old ≤ L.fault_count link.new }
@@ -81,8 +88,21 @@ pub fn run_tool<S: Source, W: Sink, L: Dial>(
     link: &mut L,
 ) -> u8
     requires { L.finished link.old ≡ false }
-    ensures answer { Answers (map string_bytes words.now) (S.left input.old) (L.local link.old) (L.told link.old) (L.told link.new) (W.written out.old) (W.written out.new)
-        (Rose (S.fault_count input.old) (S.fault_count input.new)) (Rose (L.fault_count link.old) (L.fault_count link.new)) (Rose (W.fault_count out.old) (W.fault_count out.new)) result }
+    ensures answer { Answers (map string_bytes words.now) (record {
+      left = S.left input.old;
+      faults = S.fault_count input.old;
+    }) (record {
+      left = S.left input.new;
+      faults = S.fault_count input.new;
+    }) (L.local link.old) (record {
+      told = L.told link.old;
+      dialled = L.dialled link.old;
+      faults = L.fault_count link.old;
+    }) (record {
+      told = L.told link.new;
+      dialled = L.dialled link.new;
+      faults = L.fault_count link.new;
+    }) (W.written out.old) (W.written out.new) (Rose (W.fault_count out.old) (W.fault_count out.new)) result }
     ensures stays { L.finished link.new ≡ false }
     ensures place { L.local link.new ≡ L.local link.old }
     ensures input { S.fault_count input.old ≤ S.fault_count input.new }

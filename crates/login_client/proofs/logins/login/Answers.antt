@@ -17,6 +17,7 @@ turns-init g c =
           (c.in-Ok.ensures ∙ ap (λ (local : Bool). conversation (claim local)) c.is_local.ensures) tt (login-within (claim (g.L.Link.local c.args.link.now))) c.new-frames.ensures.starts;
       unfinished = c.requires.open;
       place = refl;
+      dialled = refl;
       rising = omega arith;
     }
 
@@ -37,5 +38,6 @@ turns-preserved g c =
           (c.in-None.ensures.goes_on r.next r.place (6 - c.turns._count) r.frames_are r.within);
       unfinished = c.turn.ensures.stays;
       place = c.turn.ensures.place ∙ inv.place;
+      dialled = c.turn.ensures.dialled ∙ inv.dialled;
       rising = omega (arith, inv.rising, c.turn.ensures.rising);
     }

@@ -11,5 +11,6 @@ invariant-turns g l = record {
       (g.L.Link.told l.fn.link) (g.L.Link.told l.link) (talk_of l.client) l.frames;
   unfinished : g.L.Link.finished l.link ≡ false;
   place : g.L.Link.local l.link ≡ g.L.Link.local l.fn.link;
+  dialled : g.L.Link.dialled l.link ≡ g.L.Link.dialled l.fn.link;
   rising : g.L.Link.fault_count l.fn.link ≤ g.L.Link.fault_count l.link;
 }

@@ -16,6 +16,7 @@ reads-init g c =
       moved = subst (λ (held : List ℕ). Moved (g.L.Link.told c.args.link.now) (g.L.Link.told c.args.link.now) held []) (sym (ap (λ v. v.held) is)) (moved-none (g.L.Link.told c.args.link.now));
       unfinished = c.requires.open;
       place = refl;
+      dialled = refl;
       rising = omega arith;
     }
 
@@ -84,5 +85,6 @@ reads-preserved g c =
           (subst (λ (got : List ℕ). Moved (g.L.Link.told c.args.link.now) (g.L.Link.told c.read.new.self) got []) (sym step.0) moved);
       unfinished = c.in-Ok.ensures.stays;
       place = c.in-Ok.ensures.place ∙ inv.place;
+      dialled = c.in-Ok.ensures.dialled ∙ inv.dialled;
       rising = omega (arith, inv.rising, c.in-Ok.ensures.rising);
     }

@@ -11,6 +11,7 @@ invariant-reads g l = record {
   moved : Moved (g.L.Link.told l.fn.link) (g.L.Link.told l.link) l.frames.held [];
   unfinished : g.L.Link.finished l.link ≡ false;
   place : g.L.Link.local l.link ≡ g.L.Link.local l.fn.link;
+  dialled : g.L.Link.dialled l.link ≡ g.L.Link.dialled l.fn.link;
   rising : g.L.Link.fault_count l.fn.link ≤ g.L.Link.fault_count l.link;
 }
 

@@ -1,6 +1,7 @@
 use Rattle.std.proofs.Common.{refl, arith}
 use Rattle.loginctl.specs.LoginWords.{choice_of}
 use Rattle.loginctl.specs.Logins.{undialled, unmade}
+use Rattle.loginctl.specs.Outsides.{LinkState}
 use Rattle.loginctl.proofs.LoggingIn.{logs-in, options-usable, secrets-fit, user-whole}
 use Rattle.loginctl.proofs.logins.log_in.Goals as goal
 
@@ -8,7 +9,7 @@ pub returns-in-Err-clause-ends : goal.returns-in-Err-clause-ends
 returns-in-Err-clause-ends g c = unmade refl
 
 pub returns-in-Err-dial-clause-ends : goal.returns-in-Err-dial-clause-ends
-returns-in-Err-dial-clause-ends g c = undialled c.in-Err-dial.ensures.bytes c.in-Err-dial.ensures.cause
+returns-in-Err-dial-clause-ends g c = undialled c.in-Err-dial.ensures.bytes c.in-Err-dial.ensures.dialled c.in-Err-dial.ensures.cause
 
 pub login-requires-clause-user : goal.login-requires-clause-user
 unfolding choice_of
@@ -23,7 +24,9 @@ login-requires-clause-options g c = options-usable (choice_of c.args.chosen.now)
 pub returns-clause-ends : goal.returns-clause-ends
 unfolding choice_of
 returns-clause-ends g c =
-    logs-in (choice_of c.args.chosen.now) (g.L.Link.local c.args.link.now) (g.L.Link.local c.dial.new.self) (g.L.Link.told c.args.link.now) (g.L.Link.told c.dial.new.self) (g.L.Link.told c.login.new.link) _ _
-    c.login.result c.bytes_or_none.result.now c.in-Ok.secrets c.options_of-options.result
-    c.bytes_or_none.ensures c.in-Ok.ensures c.options_of-options.ensures c.dial.ensures.place c.dial.ensures.bytes
-    (λ rises. omega (arith, rises, c.dial.ensures.rising)) c.login.ensures.ends
+    let state = λ (l : _). let made : LinkState = record { told = g.L.Link.told l; dialled = g.L.Link.dialled l; faults = g.L.Link.fault_count l } in made in
+    logs-in (choice_of c.args.chosen.now) (g.L.Link.local c.args.link.now) (g.L.Link.local c.dial.new.self)
+    (state c.args.link.now) (state c.dial.new.self) (state c.login.new.link)
+    c.login.result c.path_of.result.now c.bytes_or_none.result.now c.in-Ok.secrets c.options_of-options.result
+    c.path_of.ensures c.bytes_or_none.ensures c.in-Ok.ensures c.options_of-options.ensures c.dial.ensures.place
+    c.dial.ensures.bytes c.in-Ok-dial.ensures.dialled c.login.ensures.dialled c.dial.ensures.rising c.login.ensures.ends

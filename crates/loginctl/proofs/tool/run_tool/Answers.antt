@@ -9,7 +9,7 @@ returns-then-is_frames-clause-answer g c = frames c.print_frames.result (sym c.i
 
 pub returns-then-not-is_replay-clause-answer : goal.returns-then-not-is_replay-clause-answer
 returns-then-not-is_replay-clause-answer g c =
-    other c.login_or_usage.result (sym c.is_replay.ensures ∙ c.if-not-is_replay.true) (sym c.is_frames.ensures ∙ c.if-is_frames.false) c.login_or_usage.ensures.answer
+    other c.login_or_usage.result (sym c.is_replay.ensures ∙ c.if-not-is_replay.true) (sym c.is_frames.ensures ∙ c.if-is_frames.false) refl c.login_or_usage.ensures.answer
 
 pub returns-in-Err-Fault-clause-answer : goal.returns-in-Err-Fault-clause-answer
 returns-in-Err-Fault-clause-answer g c =
