@@ -6,9 +6,10 @@ ghost use Rattle.lg_outside.specs.Traffic.{untold, untold_paths};
 ghost use Rattle.std.specs.Prelude.{◌≡◌, ◌<◌, ◌≤◌, if◌then◌else◌, IfOk, IsSome, None, OnErr, OnOk, false, true, is_err, length};
 
 use crate::links::{Dial, Link};
-use crate::standard_streams::write_whole;
+use crate::standard_streams::{read_some, write_whole};
 use crate::streams::Failed;
-use std::io::Read;
+use mio::net as without_waiting;
+use std::io;
 use std::net::Net;
 use std::os::unix::net::UnixStream;
 
@@ -70,7 +71,7 @@ impl<N> Link for UnixLink<N> {
 
     ghost fault_count = { λ s. s.faults };
 
-    // It is one read of the stream. Each of that one's errors counts as a fault.
+    // It is one read of the stream, repeated where a signal interrupts it. Each other error counts as a fault.
     fn read(&mut self, buf: &mut [u8]) -> Result<usize, Failed>
         requires room { 0 < length buf.old }
         requires open { self.old.is_finished ≡ false }
@@ -133,7 +134,8 @@ impl<N> Link for UnixLink<N> {
 }
 
 impl<N: Net> Dial for UnixLink<N> {
-    // It connects a new stream, in place of the one that it had. An error leaves that one.
+    // It connects a new stream, in place of the one that it had. An error leaves that one. Where more peers wait at the
+    // socket than the system lets wait, it fails at once.
     fn dial(&mut self, path: &str) -> Result<(), Failed>
         ensures dialled { Dials untold_paths untold_paths result path.now }
         ensures bytes { untold ≡ untold }
@@ -146,7 +148,7 @@ impl<N: Net> Dial for UnixLink<N> {
         ensures connected { OnOk result (IsSome self.new.stream) }
         ensures kept { OnErr result (self.new.stream ≡ self.old.stream) }
     {
-        match UnixStream::connect(&self.net, path) {
+        match connect(&self.net, path) {
             Ok(stream) => {
                 self.stream = Some(stream);
                 Ok(())
@@ -156,12 +158,20 @@ impl<N: Net> Dial for UnixLink<N> {
     }
 }
 
+/// A stream that is connected to the socket at the path. The standard library's own call would wait while no more peers
+/// may wait there.
+fn connect<N: Net>(net: &N, path: &str) -> io::Result<UnixStream> {
+    let stream = UnixStream::from(without_waiting::UnixStream::connect(net, path)?);
+    stream.set_nonblocking(false)?;
+    Ok(stream)
+}
+
 /// Reads from a stream, if there is one.
 fn read_stream(stream: &mut Option<UnixStream>, buf: &mut [u8]) -> Result<usize, Failed>
     ensures { IfOk result (λ count. count ≤ length buf.new) }
 {
     match stream {
-        Some(stream) => stream.read(buf).map_err(|_| Failed),
+        Some(stream) => read_some(stream, buf),
         None => Err(Failed),
     }
 }
