@@ -1,5 +1,5 @@
 -- Each step keeps the books: lemmas on what the seats know, apart from the table.
-use Rattle.std.proofs.Common.{◌≡◌, ◌≢◌, ◌⊎◌, ℕ, zero, suc, ◌+◌, ◌<◌, ◌≤◌, ◌^◌, ◌||◌, Bool, true, false, true≢false, cond, eqb, List, [], ◌∷◌, ◌++◌, map, length, set, Option, Some, None, refl, sym, ap, ◌∙◌, subst, inl, inr, ⊎_elim, arith, eq-eqb, ne_eqb, length-append, length-set, append_assoc, append-nil}
+use Rattle.std.proofs.Common.{◌≡◌, ◌≢◌, ◌⊎◌, ℕ, zero, suc, ◌+◌, ◌<◌, ◌≤◌, ◌^◌, ◌||◌, Bool, true, false, true≢false, cond, eqb, List, [], ◌∷◌, ◌++◌, map, length, drop, set, Option, Some, None, refl, sym, ap, ◌∙◌, subst, inl, inr, ⊎_elim, arith, eq-eqb, ne_eqb, length-append, length-set, append_assoc, append-nil}
 use mathlib.Core.Logic.{dite}
 use mathlib.Core.Option.{none, some, some-injective, some-ne-none}
 use mathlib.Core.List.{map-append}
@@ -13,11 +13,11 @@ use Rattle.turn_book.specs.declared.view.Branch.{Branch}
 use Rattle.turn_book.specs.declared.view.Made.{Made}
 use Rattle.turn_book.specs.declared.view.View.{View}
 use Rattle.turn_book.specs.Views.{branch, number_of, Carries, CarriesNumber, CarriesAll, Apart, split_once, next_number, unsigned, signed, entry_of, Extends, NoneBy, by_any, longer, nothing_met, first_view, opened_at, finished, waiting, holding, left, right, met, both, spent_view, left_behind}
-use Rattle.turn_book.specs.Steps.{Meeting}
+use Rattle.turn_book.specs.Steps.{Follows, Meeting}
 use Rattle.turn_book.specs.Rule.{Turn, a_turn, made_in, made_by, log_of, total, Distinct, SeatCarries, Family, HasTicket, carried_of, drawn_of, HasSeen, Makers, StageFits, SeatFits, Books}
-use Rattle.turn_book.proofs.Lists.{head_or, tail_of, at_same, at_here, at_bound, at_split, at_shift, at_one, unmapped, comparable, same_length, total_set, total_snoc, total_only}
+use Rattle.turn_book.proofs.Lists.{head_or, tail_of, at_same, at_here, at_bound, at_split, at_shift, at_one, unmapped, comparable, same_length, total_set, total_snoc, total_only, drop_front}
 use Rattle.turn_book.proofs.Numbers.{carries_left, carries_right, carries_either, carries_some, carries_longer, join_apart, join_family, hand_family, split_family, all_carried}
-use Rattle.turn_book.proofs.Entries.{not_true, off, or_either, by_any_is, none_by, own_is_carried, longer_extends, log_more, made_in_by, log_maker, unsigned_maker, idle_turns, idle_made, idle_count, by_any_of}
+use Rattle.turn_book.proofs.Entries.{not_true, off, or_either, by_any_is, none_by, own_is_carried, none_front, longer_extends, log_more, made_in_by, log_maker, unsigned_maker, idle_turns, idle_made, idle_count, by_any_of}
 
 -- the owners of tickets, where the seat i has drawn the ticket n
 abbrev pub granted : (ℕ → ℕ) → ℕ → ℕ → ℕ → ℕ
@@ -30,7 +30,7 @@ granted_else : (owner : ℕ → ℕ) (n i t : ℕ) → t ≢ n → granted owner
 granted_else owner n i t ne = ap (λ (b : Bool). cond b i (owner t)) (ne_eqb t n ne)
 
 no_meeting : {E : Type 0} → Meeting {E = E} nothing_met nothing_met
-no_meeting = (inl ([], refl), λ n a b. a.1)
+no_meeting = (inl ([], refl, tt {0}), λ n a b. a.1)
 
 abbrev named_or : Option (List ℕ) → List ℕ
 named_or None = []
@@ -458,14 +458,25 @@ module _ {S E : Type 0} where
     abbrev pub after_join : List (View S E)
     after_join = set (set views i (both v w)) o spent_view
 
-    v_fits : SeatFits next serving first old (log_of old turns) out owner i v
+    abbrev v_fits : SeatFits next serving first old (log_of old turns) out owner i v
     v_fits = k.each_seat i v at
 
-    w_fits : SeatFits next serving first old (log_of old turns) out owner o w
+    abbrev w_fits : SeatFits next serving first old (log_of old turns) out owner o w
     w_fits = k.each_seat o w at_o
 
     pub comparable_seen : Extends v.seen w.seen ⊎ Extends w.seen v.seen
     comparable_seen = comparable v.seen w.seen v_fits.seen.0 w_fits.seen.0 (sym v_fits.seen.1 ∙ w_fits.seen.1)
+
+    behind : (xs ys r s : List (Made E)) → log_of old turns ≡ xs ++ r → log_of old turns ≡ ys ++ s → (t : List (Made E)) → ys ≡ xs ++ t → r ≡ t ++ s
+    behind xs ys r s e f t g =
+        let both_ways : xs ++ r ≡ xs ++ (t ++ s) = sym e ∙ (f ∙ (ap (λ (l : List (Made E)). l ++ s) g ∙ append_assoc xs t s)) in
+        sym (drop_front xs r) ∙ (ap (drop (length xs)) both_ways ∙ drop_front xs (t ++ s))
+
+    pub followed : Follows (met v) w.seen ⊎ Follows (met w) v.seen
+    followed = ⊎_elim
+        (λ (t : Extends v.seen w.seen). inl (t.0, t.1, none_front v.carried t.0 w_fits.seen.0 (subst (NoneBy v.carried) (behind v.seen w.seen v_fits.seen.0 w_fits.seen.0 v_fits.seen.1 w_fits.seen.1 t.0 t.1) (none_own opening next serving first old turns out owner views k i v at))))
+        (λ (t : Extends w.seen v.seen). inr (t.0, t.1, none_front w.carried t.0 v_fits.seen.0 (subst (NoneBy w.carried) (behind w.seen v.seen w_fits.seen.0 v_fits.seen.0 w_fits.seen.1 v_fits.seen.1 t.0 t.1) (none_own opening next serving first old turns out owner views k o w at_o))))
+        comparable_seen
 
     pub none_common : Apart v.carried w.carried
     none_common = join_apart (map carried_of views) i o v.carried w.carried (at_map carried_of views i v at) (at_map carried_of views o w at_o) apart k.family
@@ -551,7 +562,7 @@ module _ {S E : Type 0} where
             start = λ z. v_fits.start some_number;
             opening_seen = λ z. (let a = v_fits.opening_seen some_number in let b = v_short in omega arith);
             none_drawn = λ z. absurd (let b = both_length in omega arith);
-            meeting = (comparable_seen, none_common);
+            meeting = (followed, none_common);
           }
           (λ l x _ a. k.each_seat l x a)
           j u e);

@@ -102,6 +102,14 @@ module _ {E : Type 0} where
       ap (λ (b : Bool). cond b ((k, signed n e) ∷ made_from (suc k) bs (map (signed n) es)) (made_from (suc k) bs (map (signed n) es))) h
       ∙ ap (λ (l : List (ℕ × Made E)). (k, signed n e) ∷ l) (made_own (suc k) bs n es h)
 
+  pub none_front : (bs : List Branch) (xs ys : List (Made E)) → NoneBy bs (xs ++ ys) → NoneBy bs xs
+  none_front bs [] ys h = tt {0}
+  none_front bs (x ∷ xs) ys h = (h.0, none_front bs xs ys h.1)
+
+  -- what was made stays where the list goes on without an entry of these numbers
+  pub made_on : (bs : List Branch) (xs others : List (Made E)) → NoneBy bs others → made_from 0 bs (xs ++ others) ≡ made_from 0 bs xs
+  made_on bs xs others h = made_append 0 bs xs others ∙ (ap (λ (l : List (ℕ × Made E)). made_from 0 bs xs ++ l) (made_none (0 + length xs) bs others h) ∙ append-nil (made_from 0 bs xs))
+
   pub mine_turned : {S : Type 0} (v : View S E) (others : List (Made E)) (added : List E) → 0 < length v.carried → NoneBy v.carried others
       → mine (turned others added v) ≡ mine v ++ placed (length (v.seen ++ others)) (number_of v.carried) added
   mine_turned v others added some_number none_own =
@@ -115,7 +123,7 @@ module _ {E : Type 0} where
       (ap (λ (k : ℕ). made_from k bs (map (signed (number_of bs)) added)) at ∙ made_own (length before) bs (number_of bs) added (own_is_carried bs some_number)))
 
   -- The longer of two lists.
-  longer_left : (xs t : List (Made E)) → longer xs (xs ++ t) ≡ xs ++ t
+  pub longer_left : (xs t : List (Made E)) → longer xs (xs ++ t) ≡ xs ++ t
   longer_left [] t = refl
   longer_left (x ∷ xs) t = λ i. x ∷ longer_left xs t i
 
@@ -123,7 +131,7 @@ module _ {E : Type 0} where
   longer_nil [] = refl
   longer_nil (x ∷ xs) = refl
 
-  longer_right : (ys t : List (Made E)) → longer (ys ++ t) ys ≡ ys ++ t
+  pub longer_right : (ys t : List (Made E)) → longer (ys ++ t) ys ≡ ys ++ t
   longer_right [] t = longer_nil t
   longer_right (y ∷ ys) t = λ i. y ∷ longer_right ys t i
 

@@ -6,11 +6,11 @@ use Rattle.turn_book.specs.declared.view.Stage.{Stage}
 use Rattle.turn_book.specs.declared.view.Stage.TheVariants.{Idle, Waiting, Holding}
 use Rattle.turn_book.specs.declared.view.Made.{Made}
 use Rattle.turn_book.specs.declared.view.View.{View}
-use Rattle.turn_book.specs.Views.{is_idle, number_of, Apart, Extends, NoneBy, entry_of, signed, mine, waiting, holding, resting, turned, both, longer}
-use Rattle.turn_book.specs.Steps.{Sat, Took, Meeting}
+use Rattle.turn_book.specs.Views.{is_idle, number_of, Apart, Extends, NoneBy, entry_of, signed, made_from, mine, met, waiting, holding, resting, turned, both, longer}
+use Rattle.turn_book.specs.Steps.{Sat, Took, Follows, Meeting}
 use Rattle.turn_book.specs.Book.{TookTurn, Joined, IsPassed, Applied}
 use Rattle.turn_book.proofs.Lists.{drop_front}
-use Rattle.turn_book.proofs.Entries.{off, longer_extends, mine_turned}
+use Rattle.turn_book.proofs.Entries.{off, longer_left, longer_right, longer_extends, made_on, mine_turned}
 
 pub idle_is : (s : Stage) → is_idle s ≡ true → s ≡ Idle
 idle_is Idle e = refl
@@ -27,13 +27,26 @@ empty_is (x ∷ xs) e = absurd (omega arith)
 module _ {S E : Type 0} where
   pub joined_of : (v u w : View S E) → w ≡ both v u → Meeting (both v u).one (both v u).two → Joined v u w
   joined_of v u w after meeting =
-      let facts = longer_extends v.seen u.seen meeting.0 in
+      let comparable : Extends v.seen u.seen ⊎ Extends u.seen v.seen =
+      ⊎_elim (λ (f : Follows (met v) u.seen). inl (f.0, f.1)) (λ (f : Follows (met u) v.seen). inr (f.0, f.1)) meeting.0 in
+      let facts = longer_extends v.seen u.seen comparable in
       let seen_is : w.seen ≡ longer v.seen u.seen = ap (λ (x : View S E). x.seen) after in
+      let made : (made_from 0 v.carried (longer v.seen u.seen) ≡ mine v) × (made_from 0 u.carried (longer v.seen u.seen) ≡ mine u) =
+      ⊎_elim
+      (λ (f : Follows (met v) u.seen).
+      let is : longer v.seen u.seen ≡ u.seen = ap (longer v.seen) f.1 ∙ (longer_left v.seen f.0 ∙ sym f.1) in
+      (ap (made_from 0 v.carried) (is ∙ f.1) ∙ made_on v.carried v.seen f.0 f.2, ap (made_from 0 u.carried) is))
+      (λ (f : Follows (met u) v.seen).
+      let is : longer v.seen u.seen ≡ v.seen = ap (λ (l : List (Made E)). longer l u.seen) f.1 ∙ (longer_right u.seen f.0 ∙ sym f.1) in
+      (ap (made_from 0 v.carried) is, ap (made_from 0 u.carried) (is ∙ f.1) ∙ made_on u.carried u.seen f.0 f.2))
+      meeting.0 in
       record {
         after = after;
         one = (facts.0.0, seen_is ∙ facts.0.1);
         two = (facts.1.0, seen_is ∙ facts.1.1);
         longest = ⊎_elim (λ (e : longer v.seen u.seen ≡ v.seen). inl (seen_is ∙ e)) (λ (e : longer v.seen u.seen ≡ u.seen). inr (seen_is ∙ e)) facts.2;
+        one_made = ap (made_from 0 v.carried) seen_is ∙ made.0;
+        two_made = ap (made_from 0 u.carried) seen_is ∙ made.1;
         apart = meeting.1;
       }
 

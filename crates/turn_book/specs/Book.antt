@@ -11,7 +11,7 @@ use Rattle.turn_book.specs.declared.view.Made.{Made}
 use Rattle.turn_book.specs.declared.view.View.{View}
 use Rattle.turn_book.specs.declared.seat.Seat.{Seat}
 use Rattle.turn_book.specs.declared.seat.TurnBook.{TurnBook}
-use Rattle.turn_book.specs.Views.{Apart, Extends, NoneBy, entry_of, signed, number_of, mine, finished, turned, both}
+use Rattle.turn_book.specs.Views.{Apart, Extends, NoneBy, entry_of, signed, number_of, made_from, mine, finished, turned, both}
 use Rattle.turn_book.specs.Rule.{Kept}
 
 module _ {O S E : Type 0} {G : _} where
@@ -64,6 +64,9 @@ module _ {S E : Type 0} where
     pub one : Extends v.seen w.seen
     pub two : Extends u.seen w.seen
     pub longest : (w.seen ≡ v.seen) ⊎ (w.seen ≡ u.seen)
+    -- what either made stands there as before, and no more by its numbers
+    pub one_made : made_from 0 v.carried w.seen ≡ mine v
+    pub two_made : made_from 0 u.carried w.seen ≡ mine u
     pub apart : Apart v.carried u.carried
 
 -- there is a state of the book in which a seat has this view and a turn was drawn that wasn't passed on

@@ -8,9 +8,13 @@ use Rattle.turn_book.specs.declared.view.View.{View}
 use Rattle.turn_book.specs.Views.{Apart, Extends, NoneBy, entry_of, finished, waiting, holding, resting}
 use Rattle.turn_book.specs.Turns.{HasRoom}
 
+-- the list goes on from what was seen, and no entry behind that was made by the numbers carried
+abbrev pub Follows : {E : Type 0} → Met E → List (Made E) → Type 0
+Follows {E} a later = (others : List (Made E)) × (later ≡ a.seen ++ others) × NoneBy a.carried others
+
 -- two seats that met: one had seen what the other had, and more, and they carried no number in common
 abbrev pub Meeting : {E : Type 0} → Met E → Met E → Type 0
-Meeting a b = (Extends a.seen b.seen ⊎ Extends b.seen a.seen) × Apart a.carried b.carried
+Meeting a b = (Follows a b.seen ⊎ Follows b a.seen) × Apart a.carried b.carried
 
 -- a seat at the table: its view and what it holds
 abbrev pub Sat : Type 0 → Type 0 → Type 0 → Type 0

@@ -108,7 +108,11 @@ impl<O: Object> TurnBook<O> {
     }
 
     // A book of which `drawn` turns count as drawn, and passed on with no entry, by its first seat.
-    fn starting_at(alloc: Global, drawn: u64, object: O) -> Result<(TurnBook<O>, Seat<O>), Memory>
+    pub(crate) fn starting_at(
+        alloc: Global,
+        drawn: u64,
+        object: O,
+    ) -> Result<(TurnBook<O>, Seat<O>), Memory>
         requires opening { O.opening (O.start object) (O.entries object) }
         requires drawn { drawn ≤ 2 ^ 62 }
         ensures own { IfOk result (λ r. IsOf O.start r.0 r.1) }

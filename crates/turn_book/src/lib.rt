@@ -17,3 +17,6 @@ pub mod view;
 
 pub use object::{Applies, Object, TurnFault};
 pub use seat::{Seat, TurnBook};
+
+#[cfg(test)]
+mod tests;
