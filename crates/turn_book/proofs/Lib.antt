@@ -5,3 +5,4 @@ pub mod Books
 pub mod Moves
 pub mod Closing
 pub mod Turning
+pub mod Seats

@@ -3,3 +3,4 @@ pub mod Turns
 pub mod Steps
 pub mod Rule
 pub mod Book
+pub mod Seats

@@ -10,6 +10,7 @@
 #![tactic(auto)]
 
 mod book;
+pub mod laws;
 pub mod object;
 mod rule;
 pub mod seat;
