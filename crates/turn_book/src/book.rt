@@ -29,7 +29,7 @@ const OBJECT: usize = 0;
 /// How many turns a book has.
 const END: u64 = 1 << 62;
 
-// A waiting seat looks so often before it sleeps.
+// A waiting seat looks so often before each sleep.
 const LOOKS: u32 = 100;
 // The longest sleep, in microseconds.
 const LONGEST: u64 = 1000;
@@ -191,28 +191,27 @@ impl<O: Object> TurnBook<O> {
         ensures table { place.new.table_id ≡ place.old.table_id }
         ensures took { Took O.start O.entries O.opening ticket place.old.me place.new.me }
     {
-        let mut looks = 0;
+        let mut looks = 0u32;
         for _ in rt.forever() {
             let served = self.table.shared.load::<Look>(place, SERVING);
             if served == ticket {
                 return;
             }
             self.rest(rt, served, looks);
-            looks = (looks + 1).min(LOOKS + 16);
+            looks = looks.wrapping_add(1);
         }
         unreachable!()
     }
 
-    // Lets other threads run. After so many looks it sleeps while the served ticket stays the same, for a
-    // time that doubles up to the longest.
-    fn rest<R: Wait>(&self, rt: &R, served: u64, looks: u32)
-        requires { looks ≤ 116 }
-    {
-        if looks < LOOKS {
+    // Lets other threads run. After so many looks it sleeps once while the served ticket stays the same, for a
+    // time that doubles up to the longest, and then looks on.
+    fn rest<R: Wait>(&self, rt: &R, served: u64, looks: u32) {
+        if looks % (LOOKS + 1) < LOOKS {
             thread::yield_now();
             return;
         }
-        let sleep = (1u64 << (looks - LOOKS)).min(LONGEST);
+        let sleeps = (looks / (LOOKS + 1)).min(10);
+        let sleep = (1u64 << sleeps).min(LONGEST);
         self.table.shared.park_timeout(
             rt,
             SERVING,

@@ -5,7 +5,7 @@ use Rattle.turn_book.proofs.Moves.{looks}
 use Rattle.turn_book.proofs.seat.TurnBook.take.Goals as goal
 
 pub loop-init : goal.loop-init
-loop-init g c = (refl, refl, omega arith)
+loop-init g c = (refl, refl)
 
 pub load-served-requires : goal.load-served-requires
 load-served-requires g c =
@@ -26,16 +26,7 @@ returns-then-served-ticket-clause-took g c =
     subst (λ m. Took g.O.Object.start g.O.Object.entries g.O.Object.opening c.args.ticket m c.load-served.new.seat.me) i.1
     ((c.load-served.ensures.2 c.args.ticket (ap (λ m. m.0.stage) i.1 ∙ c.requires.waits.0)).0 c.if-served-ticket.true)
 
-pub rest-requires : goal.rest-requires
-rest-requires g c = c.loop.invariant.2
-
-pub overflow_add-looks : goal.overflow_add-looks
-overflow_add-looks g c = let i = c.loop.invariant.2 in first_of (omega arith, grind (arith, common_steps))
-
 pub loop-preserved : goal.loop-preserved
 loop-preserved g c =
-    let i = c.loop.invariant in (
-      c.load-served.ensures.0 ∙ i.0,
-      (c.load-served.ensures.2 c.args.ticket (ap (λ m. m.0.stage) i.1 ∙ c.requires.waits.0)).1 c.if-served-ticket.false ∙ i.1,
-      (let m = c.min-looks.ensures in first_of (omega arith, search rules, grind (arith, common_steps))),
-    )
+    let i = c.loop.invariant in
+    (c.load-served.ensures.0 ∙ i.0, (c.load-served.ensures.2 c.args.ticket (ap (λ m. m.0.stage) i.1 ∙ c.requires.waits.0)).1 c.if-served-ticket.false ∙ i.1)
