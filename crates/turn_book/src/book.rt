@@ -246,7 +246,6 @@ impl<O: Object> TurnBook<O> {
         ensures passed { (y : O) → place.old.me.1 ≡ (0, y) ∷ [] → place.new.me ≡ (resting (O.entries y) place.old.me.0, []) }
     {
         self.table.shared.store::<Pass>(place, SERVING, ticket + 1);
-        self.table.shared.wake_all(SERVING);
     }
 
     fn join(&self, place: &mut Place<O>, other: Place<O>)
