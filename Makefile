@@ -26,3 +26,5 @@ bench:
 	@bench/replay
 	@cd crates/stmt_probe && rt run < stdin > /dev/null
 	@bench/statements
+	@cd crates/turn_probe && rt run < stdin > /dev/null
+	@bench/turns
