@@ -1,7 +1,7 @@
 -- Each step keeps the books: lemmas on what the seats know, apart from the table.
-use Rattle.std.proofs.Common.{◌≡◌, ◌≢◌, ◌⊎◌, ℕ, zero, suc, ◌+◌, ◌<◌, ◌≤◌, ◌^◌, ◌||◌, Bool, true, false, true≢false, cond, eqb, List, [], ◌∷◌, ◌++◌, map, length, drop, set, Option, Some, None, refl, sym, ap, ◌∙◌, subst, inl, inr, ⊎_elim, arith, eq-eqb, ne_eqb, length-append, length-set, append_assoc, append-nil}
+use Rattle.std.proofs.Common.{◌≡◌, ◌≢◌, ◌⊎◌, ℕ, suc, ◌+◌, ◌<◌, ◌≤◌, ◌^◌, Bool, true, false, cond, eqb, List, [], ◌∷◌, ◌++◌, map, length, drop, set, Option, Some, None, refl, sym, ap, ◌∙◌, subst, inl, inr, ⊎_elim, arith, eq-eqb, ne_eqb, length-append, append_assoc, append-nil}
 use mathlib.Core.Logic.{dite}
-use mathlib.Core.Option.{none, some, some-injective, some-ne-none}
+use mathlib.Core.Option.{some}
 use mathlib.Core.List.{map-append}
 use native.Mathlib.Decide.{ℕ_discrete}
 use lib.ListN.{get_elem?, length-map}
@@ -12,12 +12,12 @@ use Rattle.turn_book.specs.declared.view.Stage.TheVariants.{Idle, Waiting, Holdi
 use Rattle.turn_book.specs.declared.view.Branch.{Branch}
 use Rattle.turn_book.specs.declared.view.Made.{Made}
 use Rattle.turn_book.specs.declared.view.View.{View}
-use Rattle.turn_book.specs.Views.{branch, number_of, Carries, CarriesNumber, CarriesAll, Apart, split_once, next_number, unsigned, signed, entry_of, Extends, NoneBy, by_any, longer, nothing_met, first_view, opened_at, finished, waiting, holding, left, right, met, both, spent_view, left_behind}
+use Rattle.turn_book.specs.Views.{branch, number_of, Carries, CarriesNumber, Apart, split_once, next_number, unsigned, Extends, NoneBy, by_any, longer, nothing_met, first_view, opened_at, finished, waiting, holding, left, right, met, both, spent_view, left_behind}
 use Rattle.turn_book.specs.Steps.{Follows, Meeting}
-use Rattle.turn_book.specs.Rule.{Turn, a_turn, made_in, made_by, log_of, total, Distinct, SeatCarries, Family, HasTicket, carried_of, drawn_of, HasSeen, Makers, StageFits, SeatFits, Books}
-use Rattle.turn_book.proofs.Lists.{head_or, tail_of, at_same, at_here, at_bound, at_split, at_shift, at_one, unmapped, comparable, same_length, total_set, total_snoc, total_only, drop_front}
-use Rattle.turn_book.proofs.Numbers.{carries_left, carries_right, carries_either, carries_some, carries_longer, join_apart, join_family, hand_family, split_family, all_carried}
-use Rattle.turn_book.proofs.Entries.{not_true, off, or_either, by_any_is, none_by, own_is_carried, none_front, longer_extends, log_more, made_in_by, log_maker, unsigned_maker, idle_turns, idle_made, idle_count, by_any_of}
+use Rattle.turn_book.specs.Rule.{Turn, a_turn, made_in, log_of, total, Distinct, SeatCarries, Family, HasTicket, carried_of, drawn_of, Makers, StageFits, SeatFits, Books}
+use Rattle.turn_book.proofs.Lists.{at_same, at_here, at_bound, at_split, at_shift, at_one, comparable, total_set, total_snoc, drop_front}
+use Rattle.turn_book.proofs.Numbers.{carries_left, carries_right, join_apart, join_family, hand_family, split_family}
+use Rattle.turn_book.proofs.Entries.{not_true, off, or_either, by_any_is, none_by, own_is_carried, none_front, longer_extends, log_more, made_in_by, unsigned_maker, idle_turns, idle_made, idle_count}
 
 -- the owners of tickets, where the seat i has drawn the ticket n
 abbrev pub granted : (ℕ → ℕ) → ℕ → ℕ → ℕ → ℕ

@@ -1,24 +1,23 @@
 -- What the rule says of a book that is taken apart, and of a seat that carries all numbers.
-use Rattle.std.proofs.Common.{◌≡◌, ◌≢◌, ◌⊎◌, ℕ, zero, suc, ◌+◌, ◌<◌, ◌≤◌, ◌^◌, Bool, true, false, List, [], ◌∷◌, ◌++◌, map, length, slice_index, Option, Some, None, refl, sym, ap, ◌∙◌, subst, inl, inr, ⊎_elim, arith, append-nil}
+use Rattle.std.proofs.Common.{◌≡◌, ◌≢◌, ℕ, ◌+◌, ◌<◌, ◌^◌, Bool, true, false, List, [], ◌∷◌, ◌++◌, map, length, slice_index, Some, refl, sym, ap, ◌∙◌, subst, arith, append-nil}
 use mathlib.Core.Logic.{dite}
 use mathlib.Core.Option.{none, some, some-injective}
 use mathlib.Core.Option as maybe
 use mathlib.Core.List.{map-append}
 use native.Mathlib.Decide.{ℕ_discrete}
 use lib.ListN.{get_elem?}
-use Rattle.atomic_table.specs.Table.{State, Final, Seen}
+use Rattle.atomic_table.specs.Table.{Final, Seen}
 use Rattle.atomic_table.proofs.Lists.{at_map}
 use Rattle.turn_book.specs.declared.view.Stage.{Stage}
 use Rattle.turn_book.specs.declared.view.Stage.TheVariants.{Idle}
 use Rattle.turn_book.specs.declared.view.Made.{Made}
 use Rattle.turn_book.specs.declared.view.View.{View}
-use Rattle.turn_book.specs.Views.{CarriesNumber, CarriesAll, Extends, entry_of}
-use Rattle.turn_book.specs.Rule.{Turn, log_of, total, HasTicket, SeatCarries, carried_of, drawn_of, Books, Home, Kept}
+use Rattle.turn_book.specs.Views.{CarriesNumber, CarriesAll, entry_of}
+use Rattle.turn_book.specs.Rule.{Turn, log_of, HasTicket, SeatCarries, carried_of, drawn_of, Books, Home, Kept}
 use Rattle.turn_book.specs.Book.{HasOpenTurn}
 use Rattle.turn_book.proofs.Lists.{at_same, at_shift, unmapped, total_only}
 use Rattle.turn_book.proofs.Numbers.{carries_some, carries_longer, all_carried}
-use Rattle.turn_book.proofs.Entries.{log_maker, not_true, off}
-use Rattle.turn_book.proofs.Books.{fits}
+use Rattle.turn_book.proofs.Entries.{log_maker, not_true}
 use Rattle.turn_book.proofs.Moves.{start_or}
 
 module _ {S E : Type 0} (open_as : S → List E → Type 0) (next serving : ℕ) (first : S) (old : List E) (turns : List (Turn E)) (out : Bool) (owner : ℕ → ℕ) (views : List (View S E)) (k : Books open_as next serving first old turns out owner views) (i : ℕ) (v : View S E) (at : get_elem? views i ≡ some v) (all : CarriesAll v.carried) where

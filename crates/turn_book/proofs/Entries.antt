@@ -1,12 +1,12 @@
 -- Entries: which of them a seat made, the longer of two lists, and the book's history.
-use Rattle.std.proofs.Common.{◌≡◌, ◌≢◌, ◌⊎◌, ℕ, zero, suc, ◌+◌, ◌<◌, ◌≤◌, ◌==◌, ◌&&◌, ◌||◌, Bool, true, false, true≢false, cond, List, [], ◌∷◌, ◌++◌, map, length, drop, Option, Some, None, option_to_list, refl, sym, ap, ◌∙◌, subst, inl, inr, ⊎_elim, arith, eq-eqb, eqb→eq, length-append, append_assoc, append-nil}
-use mathlib.Core.Option.{none, some, some-injective, some-ne-none}
+use Rattle.std.proofs.Common.{◌≡◌, ◌⊎◌, ℕ, zero, suc, ◌+◌, ◌<◌, ◌≤◌, ◌==◌, ◌&&◌, ◌||◌, Bool, true, false, true≢false, cond, List, [], ◌∷◌, ◌++◌, map, length, Option, Some, None, option_to_list, refl, sym, ap, ◌∙◌, subst, inl, inr, ⊎_elim, arith, eq-eqb, length-append, append_assoc, append-nil}
+use mathlib.Core.Option.{some, some-injective, some-ne-none}
 use mathlib.Core.List.{map-append}
 use lib.ListN.{get_elem?}
 use Rattle.turn_book.specs.declared.view.Branch.{Branch}
 use Rattle.turn_book.specs.declared.view.Made.{Made}
 use Rattle.turn_book.specs.declared.view.View.{View}
-use Rattle.turn_book.specs.Views.{branch, number_of, Carries, CarriesNumber, same, by_any, unsigned, signed, entry_of, Extends, NoneBy, made_from, mine, longer, turned}
+use Rattle.turn_book.specs.Views.{number_of, Carries, CarriesNumber, same, by_any, unsigned, signed, entry_of, Extends, NoneBy, made_from, mine, longer, turned}
 use Rattle.turn_book.specs.Rule.{Turn, a_turn, made_in, made_by, log_of}
 use Rattle.turn_book.specs.Book.{placed}
 use Rattle.turn_book.proofs.Lists.{at_one, at_split}

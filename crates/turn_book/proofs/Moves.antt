@@ -1,5 +1,5 @@
 -- What each step on the table asks: it keeps the rule, and tells what it says.
-use Rattle.std.proofs.Common.{◌≡◌, ◌≢◌, ◌⊎◌, ℕ, zero, suc, ◌+◌, ◌<◌, ◌≤◌, ◌^◌, ◌||◌, Bool, true, false, eqb, List, [], ◌∷◌, ◌++◌, map, length, drop, set, slice_index, slice_set, Option, Some, None, option_to_list, refl, sym, ap, ◌∙◌, subst, inl, inr, ⊎_elim, arith, length-append, eq-eqb, ne_eqb}
+use Rattle.std.proofs.Common.{◌≡◌, ◌≢◌, ℕ, ◌+◌, ◌<◌, ◌≤◌, ◌^◌, Bool, true, false, eqb, List, [], ◌∷◌, ◌++◌, map, length, drop, set, slice_index, slice_set, Option, Some, None, option_to_list, refl, sym, ap, ◌∙◌, subst, ⊎_elim, arith, eq-eqb, ne_eqb}
 use mathlib.Core.Logic.{dite}
 use mathlib.Core.Option.{none, some, some-injective}
 use mathlib.Core.Option as maybe
@@ -7,19 +7,19 @@ use mathlib.Core.List.{map-append}
 use native.Mathlib.Decide.{ℕ_discrete}
 use prog.Atomic.{either}
 use lib.ListN.{get_elem?, length-map}
-use Rattle.atomic_table.specs.Table.{State, Me, step, rest, put_back, Act, keeps, takes, gives, Allows, Splits, Joins, opening, stepped}
-use Rattle.atomic_table.proofs.Lists.{at_set, set_again, exchanged}
+use Rattle.atomic_table.specs.Table.{State, step, rest, put_back, keeps, takes, gives, Allows, Splits, Joins, opening}
+use Rattle.atomic_table.proofs.Lists.{at_set, set_again}
 use Rattle.turn_book.specs.declared.view.Stage.{Stage}
 use Rattle.turn_book.specs.declared.view.Stage.TheVariants.{Idle, Waiting, Holding}
 use Rattle.turn_book.specs.declared.view.Made.{Made}
 use Rattle.turn_book.specs.declared.view.View.{View}
-use Rattle.turn_book.specs.Views.{number_of, Extends, Apart, CarriesAll, entry_of, unsigned, signed, first_view, opened_at, finished, waiting, holding, resting, left, right, both, spent_view, left_behind}
+use Rattle.turn_book.specs.Views.{number_of, entry_of, signed, first_view, opened_at, finished, waiting, holding, left, right, both, spent_view, left_behind}
 use Rattle.turn_book.specs.Turns.{HasRoom}
-use Rattle.turn_book.specs.Steps.{Sat, found, drew, told, Took, looked, passed, Meeting}
+use Rattle.turn_book.specs.Steps.{Sat, found, drew, told, looked, passed}
 use Rattle.turn_book.specs.Rule.{Turn, a_turn, made_in, made_by, log_of, Books, Home, Kept}
 use Rattle.turn_book.proofs.Lists.{drop_front}
 use Rattle.turn_book.proofs.Entries.{made_by_short, entries_unsigned, entries_signed, signed_list, entries_log, log_more, idle_turns}
-use Rattle.turn_book.proofs.Books.{granted, fits, ends, draws, not_ended, none_own, waits, takes_turn, holds_turn, after_pass, passes_turn, splits_seat, hands_over, joins_seats, new_log_is, starts_books}
+use Rattle.turn_book.proofs.Books.{granted, fits, ends, draws, not_ended, none_own, waits, takes_turn, holds_turn, passes_turn, splits_seat, hands_over, joins_seats, new_log_is, starts_books}
 
 abbrev ticket_in : Stage → ℕ
 ticket_in Idle = 0

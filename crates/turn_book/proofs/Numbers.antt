@@ -1,14 +1,14 @@
 -- The numbers that seats carry, as seats are split, join, and hand their numbers over.
-use Rattle.std.proofs.Common.{◌≡◌, ◌≢◌, ◌⊎◌, ℕ, zero, suc, ◌+◌, ◌<◌, ◌≤◌, List, [], ◌∷◌, ◌++◌, map, length, set, refl, sym, ap, ◌∙◌, subst, inl, inr, ⊎_elim, arith, length-set}
+use Rattle.std.proofs.Common.{◌≡◌, ◌≢◌, ◌⊎◌, ℕ, suc, ◌+◌, ◌<◌, ◌≤◌, List, [], ◌∷◌, ◌++◌, length, set, refl, sym, ap, ◌∙◌, subst, inl, inr, ⊎_elim, arith, length-set}
 use mathlib.Core.Logic.{dite}
-use mathlib.Core.Option.{none, some, some-injective, some-ne-none}
+use mathlib.Core.Option.{some}
 use native.Mathlib.Decide.{ℕ_discrete}
 use lib.ListN.{get_elem?}
 use Rattle.atomic_table.proofs.Lists.{at_set, set_else, at_longer, at_last}
 use Rattle.turn_book.specs.declared.view.Branch.{Branch}
-use Rattle.turn_book.specs.Views.{branch, Carries, CarriesNumber, CarriesAll, Apart, split_once, next_number}
+use Rattle.turn_book.specs.Views.{branch, Carries, CarriesNumber, CarriesAll, Apart}
 use Rattle.turn_book.specs.Rule.{Distinct, SeatCarries, Family}
-use Rattle.turn_book.proofs.Lists.{head_or, tail_of, at_same, at_here, at_bound, at_split, at_one}
+use Rattle.turn_book.proofs.Lists.{head_or, tail_of, at_same, at_here, at_split, at_one}
 
 pub carries_left : (xs ys : List Branch) (n : List ℕ) (k : ℕ) → Carries xs n k → Carries (xs ++ ys) n k
 carries_left [] ys n k c = absurd c

@@ -1,5 +1,5 @@
 -- The rule holds what is said of all seats.
-use Rattle.std.proofs.Common.{◌≡◌, ◌≢◌, ℕ, suc, ◌+◌, ◌<◌, ◌≤◌, ◌^◌, Bool, true, false, List, [], ◌∷◌, ◌++◌, map, length, Option, Some, None, refl, sym, ap, ◌∙◌, subst, arith}
+use Rattle.std.proofs.Common.{◌≡◌, ◌≢◌, ℕ, ◌<◌, Bool, true, List, [], ◌∷◌, ◌++◌, map, length, Option, Some, None, refl, sym, ap, ◌∙◌, arith}
 use mathlib.Core.Option.{some}
 use lib.ListN.{get_elem?}
 use Rattle.atomic_table.specs.Table.{State}
@@ -7,7 +7,7 @@ use Rattle.atomic_table.proofs.Lists.{at_map, at_longer}
 use Rattle.turn_book.specs.declared.view.Branch.{Branch}
 use Rattle.turn_book.specs.declared.view.Made.{Made}
 use Rattle.turn_book.specs.declared.view.View.{View}
-use Rattle.turn_book.specs.Views.{Carries, CarriesNumber, Apart, Extends, by_any}
+use Rattle.turn_book.specs.Views.{CarriesNumber, Apart, by_any}
 use Rattle.turn_book.specs.Rule.{Turn, log_of, SeatCarries, Family, carried_of, Books, Kept}
 use Rattle.turn_book.specs.Seats.{OwnsPlace, SeatsStand}
 use Rattle.turn_book.proofs.Lists.{at_same}

@@ -1,12 +1,12 @@
 -- A whole turn, put together of its steps; a meeting; and a seat at rest.
-use Rattle.std.proofs.Common.{◌≡◌, ◌⊎◌, ℕ, ◌+◌, ◌<◌, ◌≤◌, Bool, true, false, List, [], ◌∷◌, ◌++◌, map, length, drop, Option, Some, None, Result, Ok, Err, option_to_list, refl, sym, ap, ◌∙◌, subst, inl, inr, ⊎_elim, arith, append-nil}
+use Rattle.std.proofs.Common.{◌≡◌, ◌⊎◌, ℕ, ◌<◌, true, false, List, [], ◌∷◌, ◌++◌, map, length, drop, Option, Some, None, Result, Ok, Err, option_to_list, refl, sym, ap, ◌∙◌, subst, inl, inr, ⊎_elim, arith, append-nil}
 use lib.ListN.{length-map}
 use Rattle.lg_base.specs.declared.allocation.Memory.{Memory}
 use Rattle.turn_book.specs.declared.view.Stage.{Stage}
 use Rattle.turn_book.specs.declared.view.Stage.TheVariants.{Idle, Waiting, Holding}
 use Rattle.turn_book.specs.declared.view.Made.{Made}
 use Rattle.turn_book.specs.declared.view.View.{View}
-use Rattle.turn_book.specs.Views.{is_idle, number_of, Apart, Extends, NoneBy, entry_of, signed, made_from, mine, met, waiting, holding, resting, turned, both, longer}
+use Rattle.turn_book.specs.Views.{is_idle, Extends, NoneBy, entry_of, made_from, mine, met, waiting, holding, resting, turned, both, longer}
 use Rattle.turn_book.specs.Steps.{Sat, Took, Follows, Meeting}
 use Rattle.turn_book.specs.Book.{TookTurn, Joined, IsPassed, Applied}
 use Rattle.turn_book.proofs.Lists.{drop_front}

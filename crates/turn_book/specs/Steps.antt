@@ -1,11 +1,11 @@
 -- What one step on the table tells the seat that makes it: of the step, the seat before, the number found, and the seat after.
-use Rattle.std.specs.Prelude.{◌≡◌, ◌≢◌, ◌⊎◌, ℕ, ◌≤◌, ◌^◌, Bool, false, List, [], ◌∷◌, ◌++◌, map, Some}
+use Rattle.std.specs.Prelude.{◌≡◌, ◌≢◌, ◌⊎◌, ℕ, ◌≤◌, ◌^◌, false, List, [], ◌∷◌, ◌++◌, map, Some}
 use Rattle.atomic_table.specs.Table.{Me, Step}
 use Rattle.turn_book.specs.declared.view.Stage.TheVariants.{Waiting}
 use Rattle.turn_book.specs.declared.view.Made.{Made}
 use Rattle.turn_book.specs.declared.view.Met.{Met}
 use Rattle.turn_book.specs.declared.view.View.{View}
-use Rattle.turn_book.specs.Views.{Apart, Extends, NoneBy, entry_of, finished, waiting, holding, resting}
+use Rattle.turn_book.specs.Views.{Apart, NoneBy, entry_of, finished, waiting, holding, resting}
 use Rattle.turn_book.specs.Turns.{HasRoom}
 
 -- the list goes on from what was seen, and no entry behind that was made by the numbers carried

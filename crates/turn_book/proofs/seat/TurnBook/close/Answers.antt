@@ -1,5 +1,4 @@
-use Rattle.std.proofs.Common.{◌≡◌, ◌≢◌, ℕ, ◌+◌, ◌<◌, ◌≤◌, Bool, true, false, List, [], ◌∷◌, ◌++◌, map, length, Some, None, refl, sym, ap, ◌∙◌, subst, rules, arith}
-use Rattle.std.proofs.lemmas.Grind.{common_steps}
+use Rattle.std.proofs.Common.{refl, ap, subst, arith}
 use Rattle.atomic_table.specs.Table.{Final, Seen}
 use Rattle.std.specs.Slots.{slots_items}
 use Rattle.turn_book.specs.Rule.{Kept}

@@ -1,5 +1,4 @@
-use Rattle.std.proofs.Common.{◌≡◌, ◌≢◌, ℕ, ◌+◌, ◌<◌, ◌≤◌, Bool, true, false, List, [], ◌∷◌, ◌++◌, map, length, Some, None, refl, sym, ap, ◌∙◌, subst, rules, arith}
-use Rattle.std.proofs.lemmas.Grind.{common_steps}
+use Rattle.std.proofs.Common.{ap, ◌∙◌, subst, arith}
 use Rattle.turn_book.specs.Steps.{Meeting}
 use Rattle.turn_book.proofs.Moves.{joins, tells}
 use Rattle.turn_book.proofs.Turning.{joined_of}

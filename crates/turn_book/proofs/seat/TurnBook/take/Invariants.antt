@@ -1,4 +1,4 @@
-use Rattle.std.proofs.Common.{◌≡◌, ◌≤◌}
+use Rattle.std.proofs.Common.{◌≡◌}
 use Rattle.turn_book.proofs.seat.TurnBook.take.Given as goal
 
 abbrev pub invariant-loop : goal.invariant-loop

@@ -1,6 +1,4 @@
-use Rattle.std.proofs.Common.{◌≡◌, ◌≢◌, ℕ, ◌+◌, ◌<◌, ◌≤◌, Bool, true, false, List, [], ◌∷◌, ◌++◌, map, length, Some, None, refl, sym, ap, ◌∙◌, subst, rules, arith, option_to_list, append-nil}
-use Rattle.std.proofs.lemmas.Grind.{common_steps}
-use Rattle.turn_book.specs.Views.{entry_of}
+use Rattle.std.proofs.Common.{List, ◌++◌, None, sym, ap, ◌∙◌, subst, option_to_list, append-nil}
 use Rattle.turn_book.proofs.Turning.{applied_entry, may_pass, turn_over, list_before, start_before}
 use Rattle.turn_book.proofs.Moves.{start_or}
 use Rattle.turn_book.proofs.seat.TurnBook.turn_at.Goals as goal
