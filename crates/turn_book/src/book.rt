@@ -29,10 +29,14 @@ const OBJECT: usize = 0;
 /// How many turns a book has.
 const END: u64 = 1 << 62;
 
-// A waiting seat looks so often before each sleep.
+// So many seats next in line look often; the others sleep until their turn is near.
+const NEAR: u64 = 24;
+// A seat next in line looks so often before each sleep.
 const LOOKS: u32 = 100;
-// The longest sleep, in microseconds.
+// The longest sleep, and what a turn that is still ahead adds to one, in microseconds.
 const LONGEST: u64 = 1000;
+
+const A_TURN: u64 = 5;
 
 impl<O: Object> TurnBook<O> {
     /// A book, and its first seat, which has seen the list that the object stands for.
@@ -197,26 +201,31 @@ impl<O: Object> TurnBook<O> {
             if served == ticket {
                 return;
             }
-            self.rest(rt, served, looks);
+            self.rest(rt, served, ticket.saturating_sub(served), looks);
             looks = looks.wrapping_add(1);
         }
         unreachable!()
     }
 
-    // Lets other threads run. After so many looks it sleeps once while the served ticket stays the same, for a
-    // time that doubles up to the longest, and then looks on.
-    fn rest<R: Wait>(&self, rt: &R, served: u64, looks: u32) {
-        if looks % (LOOKS + 1) < LOOKS {
+    // Lets other threads run. A seat next in line looks on, and after so many looks sleeps once, for a time that
+    // doubles up to the longest; a seat with more turns ahead of it sleeps by their number. A sleep ends early where
+    // the served ticket has changed before it begins.
+    fn rest<R: Wait>(&self, rt: &R, served: u64, ahead: u64, looks: u32) {
+        let is_near = ahead <= NEAR;
+        if is_near && looks % (LOOKS + 1) < LOOKS {
             thread::yield_now();
             return;
         }
-        let sleeps = (looks / (LOOKS + 1)).min(10);
-        let sleep = (1u64 << sleeps).min(LONGEST);
+        let sleep = if is_near {
+            1u64 << (looks / (LOOKS + 1)).min(10)
+        } else {
+            (ahead - NEAR).min(LONGEST) * A_TURN
+        };
         self.table.shared.park_timeout(
             rt,
             SERVING,
             (served % (1 << 32)) as u32,
-            Duration::from_micros(sleep),
+            Duration::from_micros(sleep.min(LONGEST)),
         );
     }
 
