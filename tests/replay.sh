@@ -70,13 +70,16 @@ done
 prints word-that-is-not-text 2 "$runs/no-words.out" login --socket none --user $'nat\xff' </dev/null
 echo linkfault >"$expected"
 prints no-server 4 "$expected" login --socket "$folder/none" --user nat </dev/null
+# Nothing is printed where the input can't be read, nor on an output that takes nothing.
 : >"$expected"
+: >"$printed"
 prints input-that-fails 4 "$expected" replay <"$folder"
+prints input-that-is-closed 4 "$expected" replay <&-
 "$program" replay <"$runs/empty.script" >/dev/full
-: >"$printed"
 judge output-that-is-full $? 5 "$expected"
+"$program" frames <"$runs/frames-empty.script" >/dev/full
+judge frames-with-a-full-output $? 5 "$expected"
 "$program" login --socket "$folder/none" --user nat </dev/null >/dev/full
-: >"$printed"
 judge login-with-a-full-output $? 5 "$expected"
 
 # Prints a header and that many zero bytes: piece LENGTH ID, the length in six hexadecimal digits, low first.
