@@ -7,7 +7,7 @@
 # longest script, one that is too long, one of many accounts, and a login cut at every place.
 #
 # The last line is `N passed, M failed`. The program is built first; where that fails nothing is run. A run of which a file
-# is missing has failed, and so has the whole where no run is stored.
+# is missing has failed, and so has the whole where fewer runs are stored than there were.
 set -u
 top=$(cd "$(dirname "$0")/.." && pwd) || exit 1
 runs=$top/tests/replay
@@ -16,6 +16,8 @@ folder=$(mktemp -d) || exit 1
 trap 'rm -rf "$folder"' EXIT
 printed=$folder/printed
 expected=$folder/expected
+# So many runs are stored at least: none goes unnoticed.
+least=114
 passed=0
 failed=0
 
@@ -64,7 +66,7 @@ for file in "$runs"/*.*; do
   read -r -a words <"$run.args"
   prints "$(basename "$run")" "$(cat "$run.status")" "$run.out" ${words[@]+"${words[@]}"} <"$file"
 done
-[ "$stored" -gt 0 ] || fails "no stored run in $runs"
+[ "$stored" -ge "$least" ] || fails "only $stored stored runs in $runs, of at least $least"
 
 # Words and streams that no stored run can have.
 prints word-that-is-not-text 2 "$runs/no-words.out" login --socket none --user $'nat\xff' </dev/null
