@@ -1,4 +1,4 @@
-use Rattle.std.proofs.Common.{◌≡◌, ℕ, List, ◌++◌, true, sym, subst}
+use Rattle.std.proofs.Common.{◌≡◌, ℕ, List, true, sym, subst}
 use Rattle.pass_policy.proofs.Finding.{IsPart-found, has_part-true}
 use Rattle.pass_policy.proofs.laws.parts_are_found.Goals as goal
 use Rattle.pass_policy.specs.Parts.{IsPart, has_part}
