@@ -6,7 +6,8 @@
 # file can hold, `frames` on streams that are too long to keep, whole pieces of 16,777,215 bytes, and `replay` on the
 # longest script, one that is too long, one of many accounts, and a login cut at every place.
 #
-# The last line is `N passed, M failed`. The program is built first; where that fails nothing is run. A run of which a file
+# The last line is `N passed, M failed`. The program is proved and built first, or, with the word `--built`, was just now by
+# `rt ci`; where there is none nothing is run. A run of which a file
 # is missing has failed, and so has the whole where fewer runs are stored than there were.
 set -u
 top=$(cd "$(dirname "$0")/.." && pwd) || exit 1
@@ -26,9 +27,14 @@ fails() {
   echo "$1"
 }
 
-if ! (cd "$top/crates/loginctl" && rt run -- frames </dev/null) >"$folder/built" 2>&1; then
-  cat "$folder/built"
-  echo "loginctl can't be built"
+# Proves and builds the program, unless the word `--built` says that a check that passed has just built it.
+builds() {
+  [ "${1-}" = --built ] || (cd "$top/crates/loginctl" && rt run -- frames </dev/null) >"$folder/built" 2>&1
+}
+
+if ! builds "$@" || ! [ -x "$program" ]; then
+  [ ! -e "$folder/built" ] || cat "$folder/built"
+  echo "there is no built loginctl"
   echo "0 passed, 1 failed"
   exit 1
 fi
