@@ -30,13 +30,13 @@ const OBJECT: usize = 0;
 const END: u64 = 1 << 62;
 
 // So many seats next in line look often; the others sleep until their turn is near.
-const NEAR: u64 = 24;
+const NEAR: u64 = 8;
 // A seat next in line looks so often before each sleep.
 const LOOKS: u32 = 100;
 // The longest sleep, and what a turn that is still ahead adds to one, in microseconds.
 const LONGEST: u64 = 1000;
 
-const A_TURN: u64 = 5;
+const A_TURN: u64 = 8;
 
 impl<O: Object> TurnBook<O> {
     /// A book, and its first seat, which has seen the list that the object stands for.
