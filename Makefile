@@ -12,7 +12,7 @@ build:
 	@echo crates/loginctl/out/loginctl
 
 test:
-	@echo "Proves and tests every crate: from nothing up to an hour on four processors, later what has changed."
+	@echo "Proves and tests every crate: from nothing about an hour on four processors, later what has changed."
 	@.ci/run
 
 times:
