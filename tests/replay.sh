@@ -7,7 +7,8 @@
 # longest script, one that is too long, one of many accounts, and a login cut at every place.
 #
 # The last line is `N passed, M failed`. The program is proved and built first, or, with the word `--built`, was just now by
-# `rt ci`; where there is none nothing is run. A run of which a file is missing has failed, and so has the whole where fewer runs are stored than there were.
+# `rt ci`; where there is none nothing is run. A run of which a file is missing has failed, and so has the whole where
+# fewer runs are stored than there were.
 set -u
 top=$(cd "$(dirname "$0")/.." && pwd) || exit 1
 runs=$top/tests/replay
