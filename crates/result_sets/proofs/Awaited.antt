@@ -1,5 +1,5 @@
 -- Which payload has to stand behind those that were read, and where one that doesn't fit is faulty.
-use Rattle.std.proofs.Common.{◌≡◌, ℕ, suc, ◌+◌, ◌-◌, ◌≤◌, ◌<◌, List, [], ◌∷◌, ◌++◌, length, take, Option, refl, sym, ap, ◌∙◌, subst, append_assoc, append-nil, length-append, arith}
+use Rattle.std.proofs.Common.{◌≡◌, ℕ, ◌+◌, ◌-◌, ◌≤◌, ◌<◌, List, [], ◌∷◌, ◌++◌, length, take, Option, refl, sym, subst, append_assoc, append-nil, length-append, arith}
 use Rattle.wire_form.specs.Payloads.{Begins, IsFaultPlace}
 use Rattle.result_sets.specs.Layout.{column_count, column, ending, ending_text, row}
 use Rattle.result_sets.specs.Reading.{SpellsLine}

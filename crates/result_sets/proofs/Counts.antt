@@ -1,5 +1,5 @@
 -- The number of columns: how it is read.
-use Rattle.std.proofs.Common.{◌≡◌, ℕ, ◌+◌, ◌<◌, List, [], ◌∷◌, length, Ok, ap, ◌∙◌, arith}
+use Rattle.std.proofs.Common.{◌≡◌, ℕ, ◌<◌, List, [], ◌∷◌, length, Ok, ap, arith}
 use Rattle.lg_base.specs.Reading.{Cursor, lenenc_at}
 use Rattle.wire_form.specs.Fields.{lenenc, placed, SpellsLenenc}
 use Rattle.wire_form.proofs.Laws.{FoundAt}

@@ -1,10 +1,10 @@
 -- The fields and forms of a table's payloads meet their laws.
-use Rattle.std.proofs.Common.{◌≡◌, ℕ, zero, suc, ◌+◌, ◌-◌, ◌*◌, ◌<◌, ◌==◌, Bool, true, false, cond, List, [], ◌∷◌, ◌++◌, length, All, Option, Some, None, Ok, Err, refl, sym, ap, ◌∙◌, subst, inl, inr, ⊎_elim, append_assoc, append-nil, length-append, ne_eqb, ◌⊎◌, arith}
+use Rattle.std.proofs.Common.{◌≡◌, ℕ, zero, suc, ◌+◌, ◌-◌, ◌<◌, ◌==◌, Bool, true, false, cond, List, [], ◌∷◌, ◌++◌, length, All, Option, Ok, Err, refl, sym, ap, ◌∙◌, subst, inl, inr, ⊎_elim, append_assoc, append-nil, length-append, ne_eqb, ◌⊎◌, arith}
 use Rattle.std.proofs.lemmas.Bool.{cases_eq, eqb-true, eqb-false}
 use Rattle.std.proofs.lemmas.List.Elements.{All-nil, All-cons, All-head, All-tail, All-append}
 use Rattle.lg_base.specs.Fields.{little}
 use Rattle.lg_base.specs.Reading.{Cursor, first}
-use Rattle.wire_form.specs.Fields.{Found, Field, and_then, lenenc, SpellsLenenc, mark, made, chosen, already, ◌▸◌}
+use Rattle.wire_form.specs.Fields.{Found, and_then, lenenc, SpellsLenenc, mark, chosen, ◌▸◌}
 use Rattle.wire_form.specs.Payloads.{Begins}
 use Rattle.wire_form.proofs.Laws.{FoundAt, StopsAt, IsField, IsForm}
 use Rattle.wire_form.proofs.Joined.{and_then_ok, and_then_err, found_as, same_found, not_found, failed_at, same_place, no_cons}

@@ -1,5 +1,5 @@
 -- A row, or EOF: no payload is both, and the form of either meets its laws.
-use Rattle.std.proofs.Common.{◌≡◌, ℕ, zero, suc, ◌+◌, ◌≤◌, ◌<◌, ◌==◌, Bool, true, false, IsTrue, List, [], ◌∷◌, ◌++◌, length, replicate, All, Option, Some, None, Result, Ok, Err, refl, sym, ap, ◌∙◌, subst, inl, inr, append_assoc, append-nil, length-append, arith}
+use Rattle.std.proofs.Common.{◌≡◌, ℕ, zero, suc, ◌≤◌, ◌<◌, ◌==◌, Bool, true, false, IsTrue, List, [], ◌∷◌, ◌++◌, length, replicate, Option, Some, None, Result, Ok, Err, refl, sym, ap, ◌∙◌, subst, inl, inr, append_assoc, append-nil, length-append, arith}
 use Rattle.std.proofs.lemmas.Bool.{eqb-true}
 use Rattle.std.proofs.lemmas.List.{length-replicate}
 use Rattle.lg_base.specs.Fields.{little}
@@ -9,10 +9,10 @@ use Rattle.wire_form.specs.Payloads.{Begins}
 use Rattle.wire_form.proofs.Laws.{StopsAt, IsForm}
 use Rattle.wire_form.proofs.Joined.{map_found_ok, map_found_err}
 use Rattle.wire_form.proofs.Whole.{value_as, fault_as, no_fault}
-use Rattle.result_sets.specs.Layout.{text, ending, null_cell, value_cell, is_null, cell, cells, row}
+use Rattle.result_sets.specs.Layout.{ending, null_cell, value_cell, is_null, cell, cells, row}
 use Rattle.result_sets.specs.Reading.{line, line_from, SpellsLine}
 use Rattle.result_sets.specs.declared.table.Cell.{Cell}
-use Rattle.result_sets.specs.declared.table.Cell.TheVariants.{Null, Value}
+use Rattle.result_sets.specs.declared.table.Cell.TheVariants.{Value}
 use Rattle.result_sets.proofs.Lawful.{ending-lawful, cells-lawful, row-lawful}
 
 same_head : (x y : ℕ) (xs ys : List ℕ) → x ∷ xs ≡ y ∷ ys → x ≡ y

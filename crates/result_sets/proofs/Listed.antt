@@ -1,8 +1,7 @@
 -- A table and its payloads from the first one on, and what stands behind the payloads that were read.
-use Rattle.std.proofs.Common.{◌≡◌, ℕ, zero, suc, ◌+◌, ◌≤◌, ◌<◌, List, [], ◌∷◌, ◌++◌, length, Option, Some, None, refl, sym, ap, ◌∙◌, subst, append_assoc, append-nil, length-append, arith}
-use Rattle.wire_form.specs.Payloads.{SpellsOne}
+use Rattle.std.proofs.Common.{◌≡◌, ℕ, zero, suc, ◌+◌, ◌≤◌, ◌<◌, List, [], ◌∷◌, ◌++◌, length, Option, Some, None, refl, sym, ap, ◌∙◌, subst, append-nil, arith}
 use Rattle.wire_form.proofs.Payloads.{one_value}
-use Rattle.result_sets.specs.Layout.{column_count, column, column_text, ending, ending_text, row}
+use Rattle.result_sets.specs.Layout.{column_count, column, ending, ending_text, row}
 use Rattle.result_sets.specs.Reading.{SpellsLine}
 use Rattle.result_sets.specs.Table.{Each, tabulates}
 use Rattle.result_sets.specs.declared.table.Column.{Column}
@@ -10,7 +9,7 @@ use Rattle.result_sets.specs.declared.table.Cell.{Cell}
 use Rattle.result_sets.specs.declared.table.Table.{Table}
 use Rattle.result_sets.proofs.Lawful.{column-lawful, row-lawful, column_count-lawful}
 use Rattle.result_sets.proofs.Lines.{not_both}
-use Rattle.result_sets.proofs.Written.{ending_spelled, column_spelled}
+use Rattle.result_sets.proofs.Written.{ending_spelled}
 
 -- ## A value more
 

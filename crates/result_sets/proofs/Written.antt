@@ -6,7 +6,7 @@ use Rattle.std.proofs.lemmas.List.Elements.{All-head, All-tail}
 use Rattle.wire_form.proofs.Lenenc.{lenenc-lawful}
 use Rattle.wire_form.specs.Fields.{chosen, SpellsLenenc}
 use Rattle.result_sets.proofs.Lawful.{text-lawful, column-lawful, ending-lawful}
-use Rattle.result_sets.specs.Layout.{text, text_bytes, kind_text, is_null, null_cell, value_cell, column_count, column, column_text, ending, ending_text, cell, cell_text, cells, row}
+use Rattle.result_sets.specs.Layout.{text_bytes, kind_text, is_null, null_cell, value_cell, column_count, column, column_text, ending, ending_text, cell, cell_text, cells, row}
 use Rattle.result_sets.specs.Table.{Each, IsShort, IsWhole, row_text, table_text, tabulates}
 use Rattle.result_sets.specs.declared.table.Kind.{Kind}
 use Rattle.result_sets.specs.declared.table.Kind.TheVariants.{Text, Number}

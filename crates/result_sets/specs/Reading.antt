@@ -5,7 +5,7 @@ use Rattle.wire_form.specs.Forms.{Form}
 use Rattle.wire_form.specs.Payloads.{start}
 use Rattle.result_sets.specs.Layout.{column_count, column, ending, row}
 use Rattle.result_sets.specs.declared.fault.TableFault.{TableFault}
-use Rattle.result_sets.specs.declared.fault.TableFault.TheVariants.{Malformed, Memory}
+use Rattle.result_sets.specs.declared.fault.TableFault.TheVariants.{Malformed}
 use Rattle.result_sets.specs.declared.reading.Awaited.{Awaited}
 use Rattle.result_sets.specs.declared.reading.Awaited.TheVariants.{Count, Columns, Rows, Nothing}
 use Rattle.result_sets.specs.declared.reading.Progress.{Progress}

@@ -1,4 +1,4 @@
-use Rattle.std.proofs.Common.{rules, ◌≡◌, ℕ, ◌+◌, ◌-◌, arith}
+use Rattle.std.proofs.Common.{arith}
 use Rattle.result_sets.proofs.Cells.{none_found, one_more_found, no_cells, handed_on, all_found}
 use Rattle.result_sets.proofs.payloads.read_cells.Goals as goal
 

@@ -1,9 +1,8 @@
-use Rattle.std.proofs.Common.{ℕ, ◌+◌, ◌≡◌, List, IfSome, Result, Ok, Err, refl, sym, ap, ◌∙◌, subst, take_all, take, length, arith}
+use Rattle.std.proofs.Common.{ℕ, ◌+◌, ◌≡◌, List, IfSome, Ok, Err, refl, sym, ap, ◌∙◌, subst, take_all, take, length, arith}
 use Rattle.result_sets.specs.Faults.{malformed_at, in_payload}
 use Rattle.result_sets.specs.Reading.{taken}
 use Rattle.result_sets.specs.Table.{IsReadTable}
 use Rattle.result_sets.specs.declared.fault.TableFault.{TableFault}
-use Rattle.result_sets.specs.declared.table.Table.{Table}
 use Rattle.result_sets.proofs.Reached.{at_first, next_reached, next_refused, ended}
 use Rattle.result_sets.proofs.reading.read_table.Goals as goal
 
