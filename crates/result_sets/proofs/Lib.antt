@@ -1,2 +1,9 @@
+pub mod Awaited
+pub mod Cells
+pub mod Counts
+pub mod Lawful
+pub mod Lines
+pub mod Listed
+pub mod Reached
 pub mod Steps
 pub mod Written

@@ -3,13 +3,10 @@ use Rattle.std.proofs.Common.{◌≡◌, ℕ, ◌<◌, ◌^◌, List, [], ◌∷
 use Rattle.lg_base.specs.Fields.{lenenc_text}
 use Rattle.lg_base.specs.Reading.{first}
 use Rattle.std.proofs.lemmas.List.Elements.{All-head, All-tail}
-use Rattle.wire_form.proofs.Laws.{IsField, IsForm}
-use Rattle.wire_form.proofs.Numbers.{number-lawful, bytes-lawful}
 use Rattle.wire_form.proofs.Lenenc.{lenenc-lawful}
-use Rattle.wire_form.proofs.Made.{mark-lawful, ▸-lawful, counted-lawful}
-use Rattle.wire_form.proofs.Whole.{nothing-lawful, whole-lawful, ▹-lawful}
-use Rattle.wire_form.specs.Fields.{lenenc, chosen, SpellsLenenc}
-use Rattle.result_sets.specs.Layout.{text, text_bytes, kind_text, is_null, null_cell, value_cell, column_count, column, column_text, ending, ending_text, cell, cell_text, cells, row}
+use Rattle.wire_form.specs.Fields.{chosen, SpellsLenenc}
+use Rattle.result_sets.proofs.Lawful.{text-lawful, column-lawful, ending-lawful}
+use Rattle.result_sets.specs.Layout.{text_bytes, kind_text, is_null, null_cell, value_cell, column_count, column, column_text, ending, ending_text, cell, cell_text, cells, row}
 use Rattle.result_sets.specs.Table.{Each, IsShort, IsWhole, row_text, table_text, tabulates}
 use Rattle.result_sets.specs.declared.table.Kind.{Kind}
 use Rattle.result_sets.specs.declared.table.Kind.TheVariants.{Text, Number}
@@ -17,19 +14,6 @@ use Rattle.result_sets.specs.declared.table.Column.{Column}
 use Rattle.result_sets.specs.declared.table.Cell.{Cell}
 use Rattle.result_sets.specs.declared.table.Cell.TheVariants.{Null, Value}
 use Rattle.result_sets.specs.declared.table.Table.{Table}
-
-text-lawful : IsField text
-text-lawful = counted-lawful lenenc lenenc-lawful
-
-pub column-lawful : IsForm column
-unfolding column
-column-lawful = whole-lawful _ _ _ (▹-lawful _ _ (▸-lawful _ _ text-lawful (▸-lawful _ _ text-lawful (▸-lawful _ _ text-lawful (▸-lawful _ _ text-lawful
-    (▸-lawful _ _ text-lawful (▸-lawful _ _ text-lawful (▸-lawful _ _ (mark-lawful 0x0c (omega arith))
-    (▸-lawful _ _ (bytes-lawful 6) (▸-lawful _ _ (number-lawful 1) (bytes-lawful 5)))))))))) nothing-lawful)
-
-pub ending-lawful : IsForm ending
-unfolding ending
-ending-lawful = whole-lawful (λ _. tt) (λ _. ((tt, 0 ∷ 0 ∷ 2 ∷ 0 ∷ []), tt)) _ (▹-lawful _ _ (▸-lawful _ _ (mark-lawful 0xfe (omega arith)) (bytes-lawful 4)) nothing-lawful)
 
 -- ## The payloads, one by one
 
