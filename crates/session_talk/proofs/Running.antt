@@ -1,5 +1,5 @@
 -- What a session says over a list of inputs is what is owed for them.
-use Rattle.std.proofs.Common.{◌≡◌, refl, ap, sym, ◌∙◌, ℕ, Bool, true, false, if◌then◌else◌, List, [], ◌∷◌, ◌++◌, append_assoc}
+use Rattle.std.proofs.Common.{◌≡◌, refl, ap, sym, ◌∙◌, ℕ, Bool, true, if◌then◌else◌, List, [], ◌∷◌, ◌++◌, append_assoc}
 use Rattle.packet_frame.specs.declared.packets.Packet.{Packet}
 use Rattle.packet_stream.specs.Sent.{Sent, id_behind, id_behind_all, sent_from}
 use Rattle.interaction.specs.Talk.{Says, Hears, Asks, Over}
