@@ -23,7 +23,7 @@ use Rattle.session_talk.specs.declared.actions.Ask.TheVariants as ask
 use Rattle.session_talk.specs.declared.inputs.Input.{Input}
 use Rattle.session_talk.specs.declared.inputs.Input.TheVariants as input
 use Rattle.session_talk.proofs.Asking.{untrue}
-use Rattle.session_talk.proofs.Running.{taken_owed}
+use Rattle.session_talk.proofs.Taking.{taken_owed}
 use Rattle.session_talk.proofs.Tying.{wired_is_owed}
 use Rattle.both_ends.specs.Meeting.{first_entered, first_reply, payloads_of, sent_by}
 use Rattle.both_ends.proofs.Saying.{Each, each-append}
