@@ -17,17 +17,17 @@ use Rattle.auth_packets.specs.Handshake.{response, response_text}
 use Rattle.auth_packets.specs.declared.handshake.Response.{Response}
 use Rattle.packet_stream.specs.Sent.{id_behind}
 use Rattle.interaction.specs.Talk.{Got, Says, Hears, Asks, Over}
-use Rattle.session_talk.specs.Logins.{answering, attempt_of, caching, checking_or, claim_of, claimed, clear_evidence, clearing, greeting, heard_by, is_blank, is_named, locking, method_of, outcome, proved, proving, renewing, responded, session, settling_or, switched, without_zero}
+use Rattle.session_talk.specs.Logins.{answering, attempt_of, caching, checking_or, claim_of, claimed, clear_evidence, clearing, greeting, heard_by, is_blank, is_named, locking, method_of, outcome, proved, proving, renewing, responded, session, settling_or, without_zero}
 use Rattle.session_talk.specs.Owed.{Owed, owed}
 use Rattle.session_talk.specs.Talk.{SessionTalk}
-use Rattle.session_talk.specs.Texts.{days_of, greeting_of, switch_payload}
+use Rattle.session_talk.specs.Texts.{days_of, greeting_of}
 use Rattle.session_talk.specs.Turns.{takes}
 use Rattle.session_talk.specs.declared.attempts.Attempting.{Attempting}
 use Rattle.session_talk.specs.declared.attempts.Claim as said
 use Rattle.session_talk.specs.declared.inputs.Input.{Input}
 use Rattle.session_talk.specs.declared.inputs.Input.TheVariants as input
 use Rattle.session_talk.proofs.Taking.{owed_by_kind}
-use Rattle.session_talk.proofs.Words.{checked_taken, drawn_taken, locked_taken, look_taken, renewed_taken, settled_taken, start_taken}
+use Rattle.session_talk.proofs.Words.{checked_taken, drawn_taken, locked_taken, look_taken, renewed_taken, settled_taken, start_taken, switched_to}
 use Rattle.login_client.specs.Conversation as client-talk
 use Rattle.login_client.specs.Conversation.{factors, full, further}
 use Rattle.login_client.specs.Hearing.{IsHeard}
@@ -111,7 +111,7 @@ goes-along claim reply more (Hears anew k) c next (packet ∷ packets) owns goes
 goes-along claim reply more (Asks q k) c next packets (input.Settled replied ∷ owns) goes nonces used found =
     owed_by_kind next q k packets (input.Settled replied) owns (λ (o : Owed). o.unused ≡ [] → Ends claim c reply (payloads_of o.sent ++ more))
     (λ is all-used. subst (λ (r : Reply). Ends claim c r (payloads_of (owed next (k (input.Settled replied)) packets owns).sent ++ more)) (some-reply replied reply found)
-        (told-ends claim c replied (k (input.Settled replied)) next packets owns more (goes (input.Settled replied) is tt)))
+    (told-ends claim c replied (k (input.Settled replied)) next packets owns more (goes (input.Settled replied) is tt)))
     (λ none. absurd (none-left (input.Settled replied) owns none)) used
 goes-along claim reply more (Asks q k) c next packets (given ∷ owns) goes nonces used found =
     owed_by_kind next q k packets given owns (λ (o : Owed). o.unused ≡ [] → Ends claim c reply (payloads_of o.sent ++ more))
@@ -143,7 +143,7 @@ module _ (claim : Claim) where
   checking-along c ready stale goes a look evidences =
       checked_taken (Along c) look evidences (settling_or stale a (record { look = look; evidences = evidences }))
       (λ checked whole. settled_taken (Along c) (record { look = look; evidences = evidences }) a.flags stale (outcome a.user)
-          (λ back whole'. goes) (λ reply whole'. outcome-told c ready a.user reply))
+      (λ back whole'. goes) (λ reply whole'. outcome-told c ready a.user reply))
 
   renewing-along : (c : client.Talk) → IsReady (hearing c) → (a : Attempting) (evidences : List Evidence) → GoesAlong claim c (renewing a evidences)
   renewing-along c ready a evidences =
@@ -203,10 +203,6 @@ module _ (claim : Claim) where
   -- the client after its response
   responding : List ℕ → client.Talk
   responding nonce = client.Says (response_text (client-talk.response_to claim client-method.CachingSha2 nonce)) (client-talk.responded claim client-method.CachingSha2)
-
-  -- a client that is told to switch
-  abbrev switched_to : Attempting → Look → (nonce : List ℕ) → SessionTalk
-  switched_to a look nonce = Says (switch_payload (method_of look) nonce) (switched a look nonce)
 
   switched-along : (first : List ℕ) (a : Attempting) (look : Look) (nonce : List ℕ) → length nonce ≡ 20 → GoesAlong claim (responding first) (switched_to a look nonce)
   unfolding responding heard_by

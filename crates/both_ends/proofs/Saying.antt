@@ -21,7 +21,7 @@ use Rattle.auth_packets.specs.declared.commands.Command.TheVariants.{Quit, Query
 use Rattle.auth_packets.specs.declared.handshake.Response.{Response}
 use Rattle.packet_stream.specs.Sent.{id_behind}
 use Rattle.interaction.specs.Talk.{Got, Says, Hears, Asks, Over}
-use Rattle.session_talk.specs.Logins.{all_commands, answering, attempt_of, caching, checking_or, claim_of, claimed, clear_evidence, commanded, commands, greeting, heard_by, is_blank, is_named, locking, method_of, next_command, outcome, proved, proving, renewing, responded, session, settling_or, switched, without_zero}
+use Rattle.session_talk.specs.Logins.{all_commands, answering, attempt_of, caching, checking_or, claim_of, claimed, clear_evidence, commanded, commands, greeting, heard_by, is_blank, is_named, locking, method_of, next_command, outcome, proved, proving, renewing, responded, session, settling_or, without_zero}
 use Rattle.session_talk.specs.Owed.{Owed, owed}
 use Rattle.session_talk.specs.Talk.{SessionTalk}
 use Rattle.session_talk.specs.Texts.{error_payload, fast_payload, full_payload, greeting_payload, ok_payload, switch_payload}
@@ -31,7 +31,7 @@ use Rattle.session_talk.specs.declared.attempts.Claim.{Claim}
 use Rattle.session_talk.specs.declared.inputs.Input.{Input}
 use Rattle.session_talk.specs.declared.inputs.Input.TheVariants as input
 use Rattle.session_talk.proofs.Taking.{owed_by_kind}
-use Rattle.session_talk.proofs.Words.{checked_taken, drawn_taken, locked_taken, look_taken, renewed_taken, settled_taken, start_taken}
+use Rattle.session_talk.proofs.Words.{checked_taken, drawn_taken, locked_taken, look_taken, renewed_taken, settled_taken, start_taken, switched_to}
 use Rattle.both_ends.specs.Meeting.{Opens, first_reply, payloads_of}
 
 -- ## Talks
@@ -169,10 +169,6 @@ module _ (P : List ℕ → Type 0) (Q : Reply → List ℕ → Type 0) (kinds : 
   answering-says : (a : Attempting) (look : Look) (nonce bytes : List ℕ) (blank : Bool) → SaysBoth P Q (answering a look nonce bytes blank)
   answering-says a look nonce bytes true = proved-says a look evidence.Empty
   answering-says a look nonce bytes false = proving-says a look nonce bytes (method_of look)
-
-  -- a client that is told to switch
-  abbrev switched_to : Attempting → Look → (nonce : List ℕ) → SessionTalk
-  switched_to a look nonce = Says (switch_payload (method_of look) nonce) (switched a look nonce)
 
   switched-says : (a : Attempting) (look : Look) (nonce : List ℕ) → SaysBoth P Q (switched_to a look nonce)
   unfolding heard_by

@@ -5,12 +5,20 @@ use Rattle.factor_chain.specs.declared.credentials.Look.{Look}
 use Rattle.factor_chain.specs.declared.evidence_list.Evidence.{Evidence}
 use Rattle.account_history.specs.declared.entries.Reply.{Reply}
 use Rattle.account_history.specs.declared.entries.Who.{Who}
+use Rattle.interaction.specs.Talk.{Says}
+use Rattle.session_talk.specs.Logins.{method_of, switched}
 use Rattle.session_talk.specs.Talk.{Begins, Own, SessionTalk, on_checked, on_drawn, on_locked, on_look, on_settled, on_start, unasked}
+use Rattle.session_talk.specs.Texts.{switch_payload}
 use Rattle.session_talk.specs.Turns.{takes}
 use Rattle.session_talk.specs.declared.actions.Ask.TheVariants as ask
+use Rattle.session_talk.specs.declared.attempts.Attempting.{Attempting}
 use Rattle.session_talk.specs.declared.inputs.Input.{Input}
 use Rattle.session_talk.specs.declared.inputs.Input.TheVariants as input
 use Rattle.session_talk.proofs.Asking.{untrue}
+
+-- what a client that is told to switch is sent, and what follows
+abbrev pub switched_to : Attempting → Look → (nonce : List ℕ) → SessionTalk
+switched_to a look nonce = Says (switch_payload (method_of look) nonce) (switched a look nonce)
 
 -- ## On any answer, where it also holds of a session that is given what it didn't ask for
 
