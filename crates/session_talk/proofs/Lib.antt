@@ -13,4 +13,5 @@ pub mod Transcripts
 pub mod Coming
 pub mod Tying
 pub mod Asking
+pub mod Hearing
 pub mod Bounding
