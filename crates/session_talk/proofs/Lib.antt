@@ -1,3 +1,5 @@
+pub mod Words
+pub mod Taking
 pub mod Reading
 pub mod GoingOn
 pub mod OverBytes
@@ -5,10 +7,11 @@ pub mod Conversing
 pub mod Settled
 pub mod Running
 pub mod Ending
-pub mod Following
+pub mod Putting
 pub mod Transcribing
 pub mod Transcripts
 pub mod Coming
 pub mod Tying
 pub mod Asking
+pub mod Hearing
 pub mod Bounding

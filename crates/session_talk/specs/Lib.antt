@@ -2,6 +2,7 @@ pub mod Texts
 pub mod Talk
 pub mod Logins
 pub mod Turns
+pub mod Hearing
 pub mod Owed
 pub mod Wired
 pub mod Conversation

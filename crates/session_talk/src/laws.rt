@@ -1,6 +1,7 @@
 //! Laws of the model. Each function does nothing: its contract is the law.
 
 ghost use Rattle.session_talk.specs.Transcript.{WiredIsOwed};
+ghost use Rattle.session_talk.specs.Hearing.{ReadingIsHeard};
 ghost use Rattle.session_talk.specs.Laws.{AsksAreAnswered, ConversationsAreRuns, OwedGoesOn, ReadingIsDetermined, RunsAreOwed, RunsAreTranscripts, RunsEndAsOwed, SessionsAreBounded, StaleChangesNothing, WhatFitsIsAsked, WiredGoesOn};
 
 /// What is owed goes on with further packets and answers, and over bytes however they are cut.
@@ -40,6 +41,12 @@ pub fn wired_is_owed()
 /// of them.
 pub fn reading_is_determined()
     ensures { ReadingIsDetermined }
+{}
+
+/// A session that waits for a payload goes on with what is read as its text says: with a payload, and where reading ended.
+#[tactic(auto, using(crate::proofs::Hearing::reading_is_heard))]
+pub fn reading_is_heard()
+    ensures { ReadingIsHeard }
 {}
 
 /// What a session sends and how it ends, over the inputs that bytes, a peer behind them and entries of the history
