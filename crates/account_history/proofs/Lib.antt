@@ -1,5 +1,6 @@
 pub mod Accepted
 pub mod Decided
+pub mod Grammatical
 pub mod Moments
 pub mod Numbered
 pub mod OneMore

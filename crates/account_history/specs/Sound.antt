@@ -7,6 +7,8 @@ use Rattle.std.specs.Prelude.{◌≡◌, ℕ, ◌+◌, ◌<◌, ◌≤◌, ◌==
 use Rattle.std.specs.List.{All}
 use Rattle.factor_chain.specs.declared.credentials.Stored.{Stored}
 use Rattle.account_rules.specs.declared.accounts.Account.{Account}
+use Rattle.stmt_tokens.specs.declared.token.Token.{Token}
+use Rattle.stmt_rules.specs.Grammar.{statement}
 use Rattle.stmt_rules.specs.declared.statement.Change.{Change}
 use Rattle.stmt_rules.specs.declared.statement.Change.TheVariants.{Nothing, Password, Discard, Add, Modify, DropFactor}
 use Rattle.stmt_rules.specs.declared.statement.Statement.{Statement}
@@ -95,6 +97,10 @@ HasWritten (Executed execution) = IsWritten execution.statement
 abbrev pub AreWritten : History → Type 0
 AreWritten (From start) = Unit {0}
 AreWritten (h ▹ entry) = AreWritten h × HasWritten entry
+
+-- Each statement that the grammar gives is so.
+abbrev pub GrammarIsWritten : Type 0
+GrammarIsWritten = (v : Statement) (ts rest : List Token) → statement.spells v ts rest → IsWritten v
 
 -- ## The laws
 
