@@ -1,6 +1,9 @@
+pub mod Accepted
 pub mod Decided
+pub mod Grammatical
 pub mod Moments
 pub mod Numbered
 pub mod OneMore
 pub mod Running
+pub mod Soundness
 pub mod Unchanged

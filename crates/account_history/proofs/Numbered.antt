@@ -84,7 +84,7 @@ rise-without test low high (a ∷ accounts) r = cases (test a) (rise-without tes
   cases true later = lower low a.id high accounts (let h : low < a.id = r.0 in omega arith) r.1
   cases false later = (r.0, later)
 
-rise-effect : (statement : Statement) (g : Given) (actor : ℕ) (salt : List ℕ) (now : ℕ) (accounts : List Account)
+pub rise-effect : (statement : Statement) (g : Given) (actor : ℕ) (salt : List ℕ) (now : ℕ) (accounts : List Account)
     → RiseTo 0 g.account accounts → RiseTo 0 (given_after g statement).account (effect_of statement g actor salt now accounts)
 rise-effect (Create name auth factors options) g actor salt now accounts r =
     rise-create 0 g.account accounts (created g salt now name auth factors options) refl r
@@ -120,61 +120,60 @@ numbers-rise (h ▹ Executed x) r = cases (is_done x.reply) (numbers-rise h r) w
 -- ## No number is given twice
 
 -- an account that isn't the one sought is passed over
-passed : (id : ℕ) (a : Account) (accounts : List Account) → find (has_id id) (a ∷ accounts) ≡ None
-    → ((a.id == id) ≡ false) × (find (has_id id) accounts ≡ None)
-passed id a accounts e = cases (a.id == id) refl e where
-  cases : (its : Bool) → (a.id == id) ≡ its → cond its (Some a) (find (has_id id) accounts) ≡ None
-      → ((a.id == id) ≡ false) × (find (has_id id) accounts ≡ None)
+pub passed : (sought : Account → Bool) (a : Account) (accounts : List Account) → find sought (a ∷ accounts) ≡ None
+    → (sought a ≡ false) × (find sought accounts ≡ None)
+passed sought a accounts e = cases (sought a) refl e where
+  cases : (its : Bool) → sought a ≡ its → cond its (Some a) (find sought accounts) ≡ None → (sought a ≡ false) × (find sought accounts ≡ None)
   cases true f e = absurd (cc)
   cases false f e = (f, e)
 
-passing : (id : ℕ) (a : Account) (accounts : List Account) → (a.id == id) ≡ false → find (has_id id) accounts ≡ None
-    → find (has_id id) (a ∷ accounts) ≡ None
-passing id a accounts f e = ap (λ b. cond b (Some a) (find (has_id id) accounts)) f ∙ e
+pub passing : (sought : Account → Bool) (a : Account) (accounts : List Account) → sought a ≡ false → find sought accounts ≡ None
+    → find sought (a ∷ accounts) ≡ None
+passing sought a accounts f e = ap (λ b. cond b (Some a) (find sought accounts)) f ∙ e
 
-gone-changed : (id : ℕ) (test : Account → Bool) (change : Account → Account) → ((a : Account) → (change a).id ≡ a.id)
-    → (accounts : List Account) → find (has_id id) accounts ≡ None → find (has_id id) (with_changed test change accounts) ≡ None
-gone-changed id test change same [] e = e
-gone-changed id test change same (a ∷ accounts) e =
-    let p = passed id a accounts e in cases (test a) p.0 p.1 (gone-changed id test change same accounts p.1) where
-      cases : (b : Bool) → (a.id == id) ≡ false → find (has_id id) accounts ≡ None → find (has_id id) (with_changed test change accounts) ≡ None
-          → find (has_id id) (cond b (change a ∷ accounts) (a ∷ with_changed test change accounts)) ≡ None
-      cases true f e later = passing id (change a) accounts (ap (λ n. n == id) (same a) ∙ f) e
-      cases false f e later = passing id a (with_changed test change accounts) f later
+pub gone-changed : (sought test : Account → Bool) (change : Account → Account) → ((a : Account) → sought (change a) ≡ sought a)
+    → (accounts : List Account) → find sought accounts ≡ None → find sought (with_changed test change accounts) ≡ None
+gone-changed sought test change same [] e = e
+gone-changed sought test change same (a ∷ accounts) e =
+    let p = passed sought a accounts e in cases (test a) p.0 p.1 (gone-changed sought test change same accounts p.1) where
+      cases : (b : Bool) → sought a ≡ false → find sought accounts ≡ None → find sought (with_changed test change accounts) ≡ None
+          → find sought (cond b (change a ∷ accounts) (a ∷ with_changed test change accounts)) ≡ None
+      cases true f e later = passing sought (change a) accounts (same a ∙ f) e
+      cases false f e later = passing sought a (with_changed test change accounts) f later
 
-gone-without : (id : ℕ) (test : Account → Bool) (accounts : List Account) → find (has_id id) accounts ≡ None
-    → find (has_id id) (without test accounts) ≡ None
-gone-without id test [] e = e
-gone-without id test (a ∷ accounts) e =
-    let p = passed id a accounts e in cases (test a) p.0 p.1 (gone-without id test accounts p.1) where
-      cases : (b : Bool) → (a.id == id) ≡ false → find (has_id id) accounts ≡ None → find (has_id id) (without test accounts) ≡ None
-          → find (has_id id) (cond b accounts (a ∷ without test accounts)) ≡ None
+pub gone-without : (sought test : Account → Bool) (accounts : List Account) → find sought accounts ≡ None → find sought (without test accounts) ≡ None
+gone-without sought test [] e = e
+gone-without sought test (a ∷ accounts) e =
+    let p = passed sought a accounts e in cases (test a) p.0 p.1 (gone-without sought test accounts p.1) where
+      cases : (b : Bool) → sought a ≡ false → find sought accounts ≡ None → find sought (without test accounts) ≡ None
+          → find sought (cond b accounts (a ∷ without test accounts)) ≡ None
       cases true f e later = e
-      cases false f e later = passing id a (without test accounts) f later
+      cases false f e later = passing sought a (without test accounts) f later
+
+pub gone-created : (sought : Account → Bool) (a : Account) (accounts : List Account) → sought a ≡ false → find sought accounts ≡ None
+    → find sought (accounts ++ a ∷ []) ≡ None
+gone-created sought a [] f e = passing sought a [] f refl
+gone-created sought a (b ∷ accounts) f e =
+    let p = passed sought b accounts e in passing sought b (accounts ++ a ∷ []) p.0 (gone-created sought a accounts f p.1)
 
 -- a greater number isn't the one sought
-other-id : (n id : ℕ) → id < n → (n == id) ≡ false
+pub other-id : (n id : ℕ) → id < n → (n == id) ≡ false
 other-id n id h = cases (n == id) refl where
   cases : (b : Bool) → (n == id) ≡ b → b ≡ false
   cases true e = absurd (omega (arith, eqb-true n id e))
   cases false e = refl
 
-gone-created : (id : ℕ) (a : Account) (accounts : List Account) → id < a.id → find (has_id id) accounts ≡ None
-    → find (has_id id) (accounts ++ a ∷ []) ≡ None
-gone-created id a [] h e = passing id a [] (other-id a.id id h) refl
-gone-created id a (b ∷ accounts) h e =
-    let p = passed id b accounts e in passing id b (accounts ++ a ∷ []) p.0 (gone-created id a accounts h p.1)
-
 gone-effect : (statement : Statement) (g : Given) (actor : ℕ) (salt : List ℕ) (now : ℕ) (accounts : List Account) (id : ℕ) → id ≤ g.account
     → find (has_id id) accounts ≡ None → find (has_id id) (effect_of statement g actor salt now accounts) ≡ None
 gone-effect (Create name auth factors options) g actor salt now accounts id h e =
-    gone-created id (created g salt now name auth factors options) accounts (omega arith) e
+    gone-created (has_id id) (created g salt now name auth factors options) accounts (other-id (g.account + 1) id (omega arith)) e
 gone-effect (Alter target change options) g actor salt now accounts id h e =
-    gone-changed id (is_target actor target) (altered g salt now change options) (same-id change (g.credential + 1) salt now) accounts e
-gone-effect (Drop name) g actor salt now accounts id h e = gone-without id (is_named name) accounts e
+    gone-changed (has_id id) (is_target actor target) (altered g salt now change options)
+    (λ a. ap (λ n. n == id) (same-id change (g.credential + 1) salt now a)) accounts e
+gone-effect (Drop name) g actor salt now accounts id h e = gone-without (has_id id) (is_named name) accounts e
 gone-effect Flush g actor salt now accounts id h e = e
-gone-effect (Grant privileges name) g actor salt now accounts id h e = gone-changed id (is_named name) (granted privileges) (λ a. refl) accounts e
-gone-effect (Revoke privileges name) g actor salt now accounts id h e = gone-changed id (is_named name) (revoked privileges) (λ a. refl) accounts e
+gone-effect (Grant privileges name) g actor salt now accounts id h e = gone-changed (has_id id) (is_named name) (granted privileges) (λ a. refl) accounts e
+gone-effect (Revoke privileges name) g actor salt now accounts id h e = gone-changed (has_id id) (is_named name) (revoked privileges) (λ a. refl) accounts e
 
 gone-more : (h : History) (entry : Entry) (id : ℕ) → id ≤ (given h).account → find (has_id id) (records h) ≡ None
     → find (has_id id) (records (h ▹ entry)) ≡ None
@@ -189,3 +188,8 @@ pub numbers-stay-gone : NumbersStayGone
 numbers-stay-gone h [] id l e = e
 numbers-stay-gone h (entry ∷ entries) id l e =
     let more = given-more h entry in numbers-stay-gone (h ▹ entry) entries id (omega arith) (gone-more h entry id l e)
+
+-- numbers that rise up to one rise
+pub rise-of : (low high : ℕ) (accounts : List Account) → RiseTo low high accounts → Rise low accounts
+rise-of low high [] r = tt
+rise-of low high (a ∷ accounts) r = (r.0, rise-of a.id high accounts r.1)

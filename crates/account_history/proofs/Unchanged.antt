@@ -95,7 +95,7 @@ without-other user test other (a ∷ accounts) = cases (test a) refl (without-ot
   cases true e later = let his = other a e in rw his refl
   cases false e later = ap (λ ks. if bytes_eq a.name.user user then kept a ∷ ks else ks) later
 
-same-name : (change : Change) (id : ℕ) (salt : List ℕ) (now : ℕ) (a : Account) → (changed change id salt now a).name ≡ a.name
+pub same-name : (change : Change) (id : ℕ) (salt : List ℕ) (now : ℕ) (a : Account) → (changed change id salt now a).name ≡ a.name
 same-name Nothing id salt now a = refl
 same-name (Password auth) id salt now a = without-by auth.password where
   without-by : (password : Option (List ℕ)) → (expired_without password (with_password id salt now auth a)).name ≡ a.name

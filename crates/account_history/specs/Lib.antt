@@ -15,6 +15,7 @@ pub mod Passwords
 pub mod Privileges
 pub mod Records
 pub mod Refusals
+pub mod Sound
 pub mod Stamps
 pub mod Targets
 pub mod Telling

@@ -11,6 +11,7 @@ use Rattle.account_history.specs.declared.entries.Entry.{Entry}
 use Rattle.account_history.specs.Histories.{History, after_entries}
 use Rattle.account_history.specs.Known.{known}
 use Rattle.account_history.specs.Records.{in_force, records}
+use Rattle.account_history.specs.Sound.{has_password}
 use Rattle.account_history.specs.Stamps.{stamp}
 
 -- what a user logs in with: an account but for its options and privileges
@@ -40,10 +41,6 @@ abbrev pub is_of : List ℕ → Kept → Bool
 is_of user account = bytes_eq account.name.user user
 
 -- one of the passwords that the user's accounts have
-abbrev pub has_password : ℕ → Option (Stored × ℕ) → Bool
-has_password id None = false
-has_password id (Some password) = password.1 == id
-
 abbrev pub holds_password : ℕ → Kept → Bool
 holds_password id account = (account.primary_id == id) || has_password id account.secondary
 

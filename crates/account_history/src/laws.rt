@@ -3,6 +3,7 @@
 ghost use Rattle.account_history.specs.Deciding.{AttemptsAreDecided};
 ghost use Rattle.account_history.specs.Examples.{ExpiryExample, LockExample};
 ghost use Rattle.account_history.specs.Numbers.{NumbersRise, NumbersStayGone};
+ghost use Rattle.account_history.specs.Sound.{AccountsAreSound, GrammarIsWritten, PasswordsStayGone};
 ghost use Rattle.account_history.specs.Telling.{StampsTell};
 
 /// A session opens exactly where an account is in force for the user, no lock after failed logins is in force on it, each
@@ -23,6 +24,15 @@ pub fn stamps_tell()
 pub fn numbers_are_given_once()
     ensures rise { NumbersRise }
     ensures gone { NumbersStayGone }
+{}
+
+/// Every legal history keeps the accounts of its start sound: no two accounts have one number or one name, no two passwords
+/// have one number, and each account has at most two further factors. No number of a password is given twice. Of a statement
+/// the law takes what the grammar of statements gives.
+pub fn accounts_are_sound()
+    ensures sound { AccountsAreSound }
+    ensures gone { PasswordsStayGone }
+    ensures grammar { GrammarIsWritten }
 {}
 
 /// Worked examples: a lock after three failures, and an expiry.

@@ -6,14 +6,14 @@ use Rattle.account_keeper.specs.Shelf.{IsPlace}
 use Rattle.lg_outside.specs.Keeping.{Ascend, RiseAbove, rows_below, rows_above, put_row, remove_row}
 use Rattle.lg_outside.specs.declared.keepers.Row.{Row}
 
-below_none : (key low : ℕ) (rows : List Row) → key ≤ low → RiseAbove low rows → rows_below key rows ≡ []
+pub below_none : (key low : ℕ) (rows : List Row) → key ≤ low → RiseAbove low rows → rows_below key rows ≡ []
 below_none key low [] le h = refl
 below_none key low (row ∷ rows) le h =
     let rest = below_none key row.key rows (omega (arith, h.0)) h.1 in
     let not_below : nat_lt row.key key ≡ false = grind (arith, h.0) in
     rw not_below rest
 
-above_all : (key low : ℕ) (rows : List Row) → key ≤ low → RiseAbove low rows → rows_above key rows ≡ rows
+pub above_all : (key low : ℕ) (rows : List Row) → key ≤ low → RiseAbove low rows → rows_above key rows ≡ rows
 above_all key low [] le h = refl
 above_all key low (row ∷ rows) le h =
     let rest = above_all key row.key rows (omega (arith, h.0)) h.1 in
@@ -21,17 +21,17 @@ above_all key low (row ∷ rows) le h =
     rw above (ap (λ (xs : List Row). row ∷ xs) rest)
 
 -- what the first row adds to the rows on either side of a key
-below_first : (key : ℕ) (row : Row) (rows : List Row) → row.key < key → rows_below key (row ∷ rows) ≡ row ∷ rows_below key rows
+pub below_first : (key : ℕ) (row : Row) (rows : List Row) → row.key < key → rows_below key (row ∷ rows) ≡ row ∷ rows_below key rows
 below_first key row rows h =
     let e : nat_lt row.key key ≡ true = grind (arith, h) in
     rw e refl
 
-not_below_first : (key : ℕ) (row : Row) (rows : List Row) → key ≤ row.key → rows_below key (row ∷ rows) ≡ rows_below key rows
+pub not_below_first : (key : ℕ) (row : Row) (rows : List Row) → key ≤ row.key → rows_below key (row ∷ rows) ≡ rows_below key rows
 not_below_first key row rows h =
     let e : nat_lt row.key key ≡ false = grind (arith, h) in
     rw e refl
 
-not_above_first : (key : ℕ) (row : Row) (rows : List Row) → row.key ≤ key → rows_above key (row ∷ rows) ≡ rows_above key rows
+pub not_above_first : (key : ℕ) (row : Row) (rows : List Row) → row.key ≤ key → rows_above key (row ∷ rows) ≡ rows_above key rows
 not_above_first key row rows h =
     let e : nat_lt key row.key ≡ false = grind (arith, h) in
     rw e refl

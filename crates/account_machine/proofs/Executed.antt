@@ -24,7 +24,7 @@ use Rattle.account_machine.specs.declared.rows.Row.{Row}
 use Rattle.account_machine.specs.Rows.{row_of}
 
 -- the number of an account that is found is above the lowest
-found-above : (test : Account → Bool) (low : ℕ) (xs : List Account) (a : Account) → Rise low xs → find test xs ≡ Some a → low < a.id
+pub found-above : (test : Account → Bool) (low : ℕ) (xs : List Account) (a : Account) → Rise low xs → find test xs ≡ Some a → low < a.id
 found-above test low [] a r e = absurd (cc)
 found-above test low (x ∷ xs) a r e = cases (test x) e (λ f. found-above test x.id xs a r.1 f) where
   cases : (b : Bool) → cond b (Some x) (find test xs) ≡ Some a → (find test xs ≡ Some a → x.id < a.id) → low < a.id

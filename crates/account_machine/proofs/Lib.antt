@@ -1,12 +1,17 @@
 mod Attempts
 mod Executed
+mod Fitted
 mod Follows
 mod Found
 mod Labelled
 mod Places
 mod Raised
+mod Recorded
 mod Refusing
+mod Renumbered
 mod Replaced
+mod Restarted
 mod Seen
 mod Starts
+mod Told
 mod Written

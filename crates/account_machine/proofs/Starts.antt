@@ -54,7 +54,7 @@ native-set id (x ∷ xs) = All-cons HasSetPast _ (native_accounts (id + 1) xs) (
 opening-set : (extra : List Opening) → All HasSetPast (opening_accounts extra)
 opening-set extra = All-cons HasSetPast root_account (native_accounts 2 extra) (λ k d h. absurd (omega arith)) (native-set 2 extra)
 
-rows-new : (log : Log) (accounts : List Account) → new_rows accounts ≡ map (row_of (From log.start)) accounts
+pub rows-new : (log : Log) (accounts : List Account) → new_rows accounts ≡ map (row_of (From log.start)) accounts
 rows-new log [] = refl
 rows-new log (account ∷ accounts) = ap (λ (rows : List Row). row_of (From log.start) account ∷ rows) (rows-new log accounts)
 

@@ -4,9 +4,11 @@ pub mod Counting
 pub mod Executing
 pub mod Keeping
 pub mod Labels
+pub mod Loading
 pub mod Looks
 pub mod Openings
 pub mod Pasts
+pub mod Restarts
 pub mod Rows
 pub mod Stands
 pub mod Targets

@@ -12,6 +12,8 @@ mod clearing;
 mod effects;
 pub mod executing;
 mod keeping;
+pub mod laws;
+pub mod loading;
 mod looks;
 pub mod machine;
 mod notes;
@@ -26,4 +28,5 @@ mod targets;
 mod tests;
 
 pub use account_history::{Opening, Reply, Who};
+pub use loading::MachineFault;
 pub use machine::Accounts;

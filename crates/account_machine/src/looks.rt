@@ -17,7 +17,7 @@ use lg_base::{Bytes, Items, Memory, Name};
 use std::alloc::Global;
 
 /// The place of the account of exactly this name.
-fn find_named(rows: &[Row], name: &Name) -> Option<usize>
+pub fn find_named(rows: &[Row], name: &Name) -> Option<usize>
     ensures { result ≡ place_named rows.now name.now }
 {
     rows.iter().position(|row| is_account_at(&row.account, name.user.as_slice(), name.host))

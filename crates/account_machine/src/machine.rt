@@ -1,6 +1,7 @@
 //! The account machine: one object that stands for a history of looks and attempts.
 
 use crate::executing::Numbers;
+use crate::loading::{LoadNote, MachineFault, load_rows};
 use crate::looks::look_at;
 use crate::notes::{AttemptNote, CountNote, LookNote, StartNote};
 use crate::openings::opening_rows;
@@ -49,8 +50,11 @@ impl Accounts {
     ghost use Rattle.account_history.specs.declared.entries.Who.TheVariants.{Login};
     ghost use Rattle.account_machine.specs.Agreeing.{Agrees};
     ghost use Rattle.account_machine.specs.Labels.{ShowsFewLabels};
+    ghost use Rattle.account_machine.specs.Loading.{AreLoadable, IsFault, IsLoaded, Loads, loaded};
     ghost use Rattle.account_machine.specs.Openings.{are_openings, opening_start};
-    ghost use Rattle.std.specs.Prelude.{◌≡◌, [], IfOk, IfSome, IsTrue};
+    ghost use Rattle.account_rules.specs.declared.accounts.Account.{Account};
+    ghost use Rattle.lg_outside.specs.Keeping.{Ascend};
+    ghost use Rattle.std.specs.Prelude.{◌≡◌, [], IfErr, IfOk, IfSome, IsTrue, List};
 
     /// The accounts of a start: `'root'@'localhost'` with number 1, without a password and with both
     /// privileges, and a native account at `localhost` for each of `extra`, with the next numbers. Each
@@ -72,6 +76,35 @@ impl Accounts {
             stamps: Stamps::new(alloc),
             changes: 0,
             log: GhostValue::of(&StartNote { extra, settings }),
+        })
+    }
+
+    /// The accounts whose records the rows of a keeper are, with the rows' keys as their numbers, or `'root'@'localhost'` alone
+    /// where there is no row. The numbers of their passwords are given anew, from 1 on, in order. A row is bad that is no
+    /// record, or whose account has the name of an earlier one; the fault names the first.
+    pub fn load(
+        alloc: Global,
+        rows: &[lg_outside::Row],
+        settings: Settings,
+    ) -> Result<Accounts, MachineFault>
+        requires { Ascend rows.now }
+        ensures loaded { IfOk result (IsLoaded rows.now settings) }
+        ensures bad { IfErr result (IsFault rows.now) }
+        ensures found { (accounts : List Account) → AreLoadable rows.now accounts → Loads (λ made. made ≡ loaded accounts settings) result }
+    {
+        let made = load_rows(alloc, rows)?;
+        let log = GhostValue::of(&LoadNote {
+            rows: made.rows.as_slice(),
+            settings,
+        });
+        Ok(Accounts {
+            rows: made.rows,
+            settings,
+            moment: made.moment,
+            numbers: made.numbers,
+            stamps: Stamps::new(alloc),
+            changes: 0,
+            log,
         })
     }
 

@@ -1,9 +1,12 @@
 //! Expiry at both of its edges, with a clock that goes back, and the lock after failed logins.
+use crate::loading::MachineFault;
 use crate::machine::Accounts;
 use account_history::{Opening, Reply, Who};
+use account_keeper::MemoryKeeper;
 use account_rules::Settings;
 use factor_chain::{Evidence, Evidences, check};
-use lg_base::{Bytes, Host, Memory};
+use lg_base::{Bytes, Host, Items, Memory};
+use lg_outside::{KeepFault, Keeper};
 use native_scramble::respond;
 use std::alloc::Global;
 use std::test::Fail;
@@ -133,5 +136,77 @@ fn an_attempt_on_a_look_is_answered_as_one_without(rt: HostRuntime) -> Result<()
     assert_eq!(rt; given, OPENED);
     let numbered = accounts.observe(alloc, &Who::Own(2))?;
     assert!(rt; numbered.in_force.is_none());
+    Ok(())
+}
+
+/// The record of a native account without a password at `localhost`, whose user is one letter: version, user, host,
+/// method, primary and secondary password, no labels, changed, expired, lifetime, history, reuse, attempts, lock time,
+/// locked, privileges, no past passwords.
+fn record_of(user: u8) -> [u8; 29] {
+    let mut bytes = [0; 29];
+    bytes[0] = 1;
+    bytes[1] = 1;
+    bytes[2] = user;
+    bytes
+}
+
+/// A keeper with these rows.
+fn keeper(alloc: Global, rows: &[(u64, &[u8])]) -> Result<MemoryKeeper, KeepFault> {
+    let mut keeper = MemoryKeeper::new(Items::new(alloc), Items::new(alloc));
+    for (key, bytes) in rows {
+        keeper.put(*key, bytes)?;
+    }
+    Ok(keeper)
+}
+
+/// What a user without a password is answered by the accounts of these rows.
+fn answer(alloc: Global, rows: &[(u64, &[u8])], user: &[u8]) -> Result<Reply, MachineFault> {
+    let Ok(mut keeper) = keeper(alloc, rows) else {
+        return Err(MachineFault::Memory);
+    };
+    let Ok(kept) = keeper.load() else {
+        return Err(MachineFault::Memory);
+    };
+    let mut accounts = Accounts::load(alloc, kept.as_slice(), SETTINGS)?;
+    let empty = nothing(alloc)?;
+    Ok(accounts.attempt_here(user, &empty, 0, 0))
+}
+
+fn opened(account: u64) -> Result<Reply, MachineFault> {
+    Ok(Reply::Opened {
+        account,
+        host: Host::Localhost,
+    })
+}
+
+#[test]
+fn rows_are_loaded(rt: HostRuntime) -> Result<(), Fail> {
+    let alloc = rt.alloc();
+    let (a, b) = (record_of(b'a'), record_of(b'b'));
+    let two: [(u64, &[u8]); 2] = [(3, &a), (7, &b)];
+    assert_eq!(rt; answer(alloc, &[], b"root"), opened(1));
+    assert_eq!(rt; answer(alloc, &two, b"a"), opened(3));
+    assert_eq!(rt; answer(alloc, &two, b"b"), opened(7));
+    let denied = Ok(Reply::Denied {
+        using_password: false,
+    });
+    assert_eq!(rt; answer(alloc, &two, b"root"), denied);
+    Ok(())
+}
+
+#[test]
+fn the_first_bad_row_is_named(rt: HostRuntime) -> Result<(), Fail> {
+    let alloc = rt.alloc();
+    let a = record_of(b'a');
+    let short: [(u64, &[u8]); 3] = [(3, &a), (5, &a[..28]), (7, b"")];
+    assert_eq!(rt;
+        answer(alloc, &short, b"a"),
+        Err(MachineFault::BadRow { key: 5 })
+    );
+    let twice: [(u64, &[u8]); 2] = [(3, &a), (7, &a)];
+    assert_eq!(rt;
+        answer(alloc, &twice, b"a"),
+        Err(MachineFault::BadRow { key: 7 })
+    );
     Ok(())
 }

@@ -1,0 +1,15 @@
+//! Laws of what is kept of accounts. Each function does nothing: its contract is the law.
+
+ghost use Rattle.account_machine.specs.Restarts.{RecordsFit, RestartsKeepAccounts, RowsAreRecords};
+
+/// Each account after a legal history has a record, where each one at its start has.
+pub fn records_fit()
+    ensures { RecordsFit }
+{}
+
+/// The rows that a keeper tells after a run, which began with those of the accounts at its start, are the records of the
+/// accounts; and they are loaded as these accounts, whose passwords have new numbers.
+pub fn restarts_keep_accounts()
+    ensures rows { RowsAreRecords }
+    ensures loaded { RestartsKeepAccounts }
+{}
