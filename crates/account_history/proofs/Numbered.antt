@@ -84,7 +84,7 @@ rise-without test low high (a ∷ accounts) r = cases (test a) (rise-without tes
   cases true later = lower low a.id high accounts (let h : low < a.id = r.0 in omega arith) r.1
   cases false later = (r.0, later)
 
-rise-effect : (statement : Statement) (g : Given) (actor : ℕ) (salt : List ℕ) (now : ℕ) (accounts : List Account)
+pub rise-effect : (statement : Statement) (g : Given) (actor : ℕ) (salt : List ℕ) (now : ℕ) (accounts : List Account)
     → RiseTo 0 g.account accounts → RiseTo 0 (given_after g statement).account (effect_of statement g actor salt now accounts)
 rise-effect (Create name auth factors options) g actor salt now accounts r =
     rise-create 0 g.account accounts (created g salt now name auth factors options) refl r

@@ -1,12 +1,17 @@
+mod Answered
 mod Attempts
+mod Committed
+mod Effected
 mod Executed
 mod Follows
 mod Found
 mod Labelled
 mod Places
 mod Raised
+mod Raises
 mod Refusing
 mod Replaced
 mod Seen
 mod Starts
+mod Unrefused
 mod Written
