@@ -1,4 +1,7 @@
+mod Answered
 mod Attempts
+mod Committed
+mod Effected
 mod Executed
 mod Fitted
 mod Follows
@@ -7,6 +10,7 @@ mod Labelled
 mod Places
 mod Raised
 mod Recorded
+mod Raises
 mod Refusing
 mod Renumbered
 mod Replaced
@@ -14,4 +18,5 @@ mod Restarted
 mod Seen
 mod Starts
 mod Told
+mod Unrefused
 mod Written

@@ -34,7 +34,7 @@ use Rattle.account_history.proofs.Accepted.{IsAccepted, done-accepted}
 use Rattle.account_history.proofs.Numbered.{passed, passing, rise-of}
 use Rattle.account_history.proofs.Soundness.{accounts-sound, all-changed, all-without, keeps-all}
 use Rattle.account_machine.specs.Loading.{AreLoadable, IsRowOf}
-use Rattle.account_machine.specs.Restarts.{AreLoadedAgain, HaveRanges, IsSalt, RecordsFit, RestartsKeepAccounts, as_read, rows_kept, told_after}
+use Rattle.account_machine.specs.Restarts.{AreLoadedAgain, HaveRanges, IsSalt, RecordsFit, RestartsKeepAccounts, as_read, rows_kept, rows_after}
 use Rattle.account_machine.proofs.Fitted.{change-fits, created-fits, options-fits}
 use Rattle.account_machine.proofs.Told.{kept-rise, rows-are-records}
 
@@ -225,6 +225,6 @@ kept-again high accounts r h names fits = record {
 pub restarts-keep : RestartsKeepAccounts
 restarts-keep h fits sound legal written ranges top =
     let after = accounts-sound h sound legal written in
-    let told : told_after h ≡ rows_kept (records h) = rows-are-records h sound.numbers in
+    let told : rows_after h ≡ rows_kept (records h) = rows-are-records h sound.numbers in
     subst (λ rows. AreLoadedAgain rows (records h)) (sym told)
     (kept-again (given h).account (records h) after.1.numbers top after.0.names (records-fit h fits legal written ranges))

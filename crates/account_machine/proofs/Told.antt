@@ -18,7 +18,7 @@ use Rattle.account_history.specs.Records.{records}
 use Rattle.account_history.specs.Targets.{is_target}
 use Rattle.account_history.proofs.Numbered.{numbers-rise, rise-of, same-id}
 use Rattle.account_machine.specs.Executing.{kept_after, put_account, put_target, remove_target}
-use Rattle.account_machine.specs.Restarts.{RowsAreRecords, row_kept, rows_kept, told_after}
+use Rattle.account_machine.specs.Restarts.{RowsAreRecords, row_kept, rows_kept, rows_after}
 use Rattle.account_machine.proofs.Executed.{found-above}
 
 -- the rows of accounts whose numbers rise have keys that rise
@@ -121,8 +121,8 @@ rows-are-records (From start) r = refl
 rows-are-records (h ▹ Observed who look) r = rows-are-records h r
 rows-are-records (h ▹ Attempted attempt) r = rows-are-records h r
 rows-are-records (h ▹ Executed e) r = cases (is_done e.reply) (rows-are-records h r) where
-  cases : (b : Bool) → told_after h ≡ rows_kept (records h)
-      → (if b then kept_after e.statement (given h) e.actor e.salt (max e.reading (moment h)) (records h) (told_after h) else told_after h)
+  cases : (b : Bool) → rows_after h ≡ rows_kept (records h)
+      → (if b then kept_after e.statement (given h) e.actor e.salt (max e.reading (moment h)) (records h) (rows_after h) else rows_after h)
       ≡ rows_kept (if b then effect_of e.statement (given h) e.actor e.salt (max e.reading (moment h)) (records h) else records h)
   cases true before =
       ap (λ (rows : List Kept). kept_after e.statement (given h) e.actor e.salt (max e.reading (moment h)) (records h) rows) before

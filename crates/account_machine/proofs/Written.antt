@@ -58,7 +58,7 @@ rows-on h t i account r e f =
     map-set (row_of h) (row_of (h ▹ Attempted t)) (records h) i account e
     (λ j other g d. row-same h (h ▹ Attempted t) other (failures-other h t account other.id f (rise-differ 0 (records h) i j account other r e g d)))
 
-map-agree : {A B : Type 0} (f g : A → B) (xs : List A) → ((x : A) → f x ≡ g x) → map f xs ≡ map g xs
+pub map-agree : {A B : Type 0} (f g : A → B) (xs : List A) → ((x : A) → f x ≡ g x) → map f xs ≡ map g xs
 map-agree f g [] h = refl
 map-agree f g (x ∷ xs) h = λ i. h x i ∷ map-agree f g xs h i
 

@@ -1,5 +1,6 @@
 pub mod Agreeing
 pub mod Clearing
+pub mod Committing
 pub mod Counting
 pub mod Executing
 pub mod Keeping
@@ -9,6 +10,7 @@ pub mod Looks
 pub mod Openings
 pub mod Pasts
 pub mod Restarts
+pub mod Preparing
 pub mod Rows
 pub mod Stands
 pub mod Targets

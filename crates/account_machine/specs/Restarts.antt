@@ -29,18 +29,18 @@ rows_kept accounts = map row_kept accounts
 
 -- what the keeper tells after a history that began with the rows of its accounts: each statement that was done put or removed
 -- its row
-abbrev pub told_after : History → List Kept
-told_after (From start) = rows_kept start.accounts
-told_after (h ▹ Observed who look) = told_after h
-told_after (h ▹ Attempted attempt) = told_after h
-told_after (h ▹ Executed e) =
+abbrev pub rows_after : History → List Kept
+rows_after (From start) = rows_kept start.accounts
+rows_after (h ▹ Observed who look) = rows_after h
+rows_after (h ▹ Attempted attempt) = rows_after h
+rows_after (h ▹ Executed e) =
     if is_done e.reply
-    then kept_after e.statement (given h) e.actor e.salt (max e.reading (moment h)) (records h) (told_after h)
-    else told_after h
+    then kept_after e.statement (given h) e.actor e.salt (max e.reading (moment h)) (records h) (rows_after h)
+    else rows_after h
 
 -- The rows that are told after a history are the records of its accounts. Where no account is left, there is no row.
 abbrev pub RowsAreRecords : Type 0
-RowsAreRecords = (h : History) → Rise 0 (start_of h).accounts → told_after h ≡ rows_kept (records h)
+RowsAreRecords = (h : History) → Rise 0 (start_of h).accounts → rows_after h ≡ rows_kept (records h)
 
 -- ## Records that fit
 
@@ -79,4 +79,4 @@ pub record AreLoadedAgain (rows : List Kept) (accounts : List Account) : Type 0 
 abbrev pub RestartsKeepAccounts : Type 0
 RestartsKeepAccounts =
     (h : History) → All FitsRecord (start_of h).accounts → AreSound (start_of h).accounts → IsLegal h → AreWritten h → HaveRanges h
-    → (given h).account ≤ 2 ^ 62 → AreLoadedAgain (told_after h) (records h)
+    → (given h).account ≤ 2 ^ 62 → AreLoadedAgain (rows_after h) (records h)

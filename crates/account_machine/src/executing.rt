@@ -2,6 +2,7 @@
 
 ghost use Rattle.account_history.specs.Effects.{created, with_changed, without};
 ghost use Rattle.account_history.specs.Given.{given_after, given_in_change};
+ghost use Rattle.account_history.specs.Legal.{changes_accounts};
 ghost use Rattle.account_history.specs.Refusals.{auth_of, is_bad_password, misplaced, new_password, new_password_in, options_fit, options_of};
 ghost use Rattle.account_history.specs.Targets.{is_named_by, target_of};
 ghost use Rattle.account_keeper.specs.Record.{FitsRecord, record_text};
@@ -171,6 +172,7 @@ fn drop_target<K: Keeper>(
     actor: u64,
     keeper: &mut K,
 ) -> Result<bool, Memory>
+    requires { is_some (target_of (accounts_of rows.old.items) statement.now actor) ≡ true }
     ensures done { IfOk result (λ done. rows.new.items ≡ (if done then without (λ row. is_named_by statement.now actor row.account) rows.old.items else rows.old.items)) }
     ensures err { OnErr result (rows.new.items ≡ rows.old.items) }
     ensures kept { Keeps (remove_target (target_of (accounts_of rows.old.items) statement.now actor)) (K.told_rows keeper.old) (K.told_rows keeper.new) result }
@@ -182,7 +184,7 @@ fn drop_target<K: Keeper>(
             let key = rows[place].account.id;
             take_away(rows, place, key, keeper)
         }
-        None => Err(Memory),
+        None => unreachable!(),
     }
 }
 
@@ -197,6 +199,7 @@ fn change_target<K: Keeper>(
     now: u64,
     keeper: &mut K,
 ) -> Result<bool, Memory>
+    requires found { is_some (target_of (accounts_of rows.old.items) statement.now actor) ≡ true }
     requires credential { numbers.now.credential + 1 < 2 ^ 64 }
     requires password { length (new_password statement.now) ≤ 256 }
     requires options { options_fit (options_of statement.now) ≡ true }
@@ -213,7 +216,7 @@ fn change_target<K: Keeper>(
             let row = next_row(alloc, numbers, &rows[place], statement, salt, now)?;
             replace(alloc, rows, place, row, keeper)
         }
-        None => Err(Memory),
+        None => unreachable!(),
     }
 }
 
@@ -228,6 +231,7 @@ pub fn execute<K: Keeper>(
     now: u64,
     keeper: &mut K,
 ) -> Result<bool, Memory>
+    requires placed { misplaced statement.now (target_of (accounts_of rows.old.items) statement.now actor) ≡ None }
     requires account { numbers.now.account + 1 < 2 ^ 64 }
     requires credential { numbers.now.credential + 1 < 2 ^ 64 }
     requires password { length (new_password statement.now) ≤ 256 }
@@ -236,6 +240,7 @@ pub fn execute<K: Keeper>(
     ensures done { IfOk result (λ done. rows.new.items ≡ (if done then rows_after statement.now (given_of numbers.now) actor salt.now now rows.old.items else rows.old.items)) }
     ensures err { OnErr result (rows.new.items ≡ rows.old.items) }
     ensures kept { Keeps (kept_after statement.now (given_of numbers.now) actor salt.now now (accounts_of rows.old.items)) (K.told_rows keeper.old) (K.told_rows keeper.new) result }
+    ensures called { IfOk result (λ done. done ≡ false → changes_accounts statement.now ≡ true) }
     ensures cause { IfOk result (λ done. done ≡ false → Rose (K.fault_count keeper.old) (K.fault_count keeper.new)) }
     ensures rising { K.fault_count keeper.old ≤ K.fault_count keeper.new }
 {

@@ -1,5 +1,5 @@
-//! The account machine: the accounts of the server, and what a look at them and an attempt to log in are
-//! answered.
+//! The account machine: the accounts of the server, and what a look at them, an attempt to log in and an account
+//! statement are answered.
 //!
 //! **[`Accounts`] stands for a history, and each call that adds an entry leaves it standing for that history
 //! with the one entry, whose reply is the one that the history determines.** The definitions of histories and
@@ -9,6 +9,7 @@
 #![tactic(auto)]
 
 mod clearing;
+mod committing;
 mod effects;
 pub mod executing;
 mod keeping;
@@ -20,6 +21,7 @@ mod notes;
 mod openings;
 mod options;
 mod passwords;
+pub mod preparing;
 mod refusals;
 pub mod rows;
 pub mod stamps;
@@ -27,6 +29,7 @@ mod targets;
 #[cfg(test)]
 mod tests;
 
-pub use account_history::{Opening, Reply, Who};
+pub use account_history::{Opening, Reply, StmtReply, Who};
 pub use loading::MachineFault;
 pub use machine::Accounts;
+pub use preparing::{Prepared, prepare};

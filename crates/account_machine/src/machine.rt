@@ -1,19 +1,24 @@
-//! The account machine: one object that stands for a history of looks and attempts.
+//! The account machine: one object that stands for a history of looks, attempts and account statements.
 
-use crate::executing::Numbers;
+use crate::committing::{next_change, perform};
+use crate::executing::{Numbers, next_numbers};
 use crate::loading::{LoadNote, MachineFault, load_rows};
 use crate::looks::look_at;
-use crate::notes::{AttemptNote, CountNote, LookNote, StartNote};
+use crate::notes::{AttemptNote, CountNote, LookNote, StartNote, StatementNote};
 use crate::openings::opening_rows;
+use crate::preparing::Prepared;
 use crate::rows::{Row, attempt_on};
 use crate::stamps::Stamps;
-use account_history::{Log, Opening, Reply, Who};
+use crate::targets::first_refusal;
+use account_history::{Log, Opening, Reply, StmtReply, Who};
 use account_rules::Settings;
 use factor_chain::{Checked, Evidences, Look};
 use ghost_value::GhostValue;
-use lg_base::Memory;
+use lg_base::{Code, Memory};
+use lg_outside::Keeper;
 use std::alloc::Global;
 use std::marker::Model;
+use stmt_rules::Statement;
 
 /// The accounts with their tallies. Contracts see the history that they stand for.
 #[derive(Drop)]
@@ -42,19 +47,23 @@ impl Model for Accounts {
 }
 
 impl Accounts {
-    ghost use Rattle.account_history.specs.Answers.{attempt_reply, look_of};
-    ghost use Rattle.account_history.specs.Histories.{history, noted};
-    ghost use Rattle.account_history.specs.Legal.{IsLegal};
+    ghost use Rattle.account_history.specs.Answers.{attempt_reply, look_of, statement_refusal, statement_reply};
+    ghost use Rattle.account_history.specs.Histories.{history, moment, noted};
+    ghost use Rattle.account_history.specs.Legal.{IsExecuted, IsLegal, changes_accounts, last_count};
     ghost use Rattle.account_history.specs.Stamps.{stamp};
-    ghost use Rattle.account_history.specs.declared.entries.Entry.TheVariants.{Attempted, Observed};
+    ghost use Rattle.account_history.specs.declared.entries.Entry.TheVariants.{Attempted, Executed, Observed};
+    ghost use Rattle.account_history.specs.declared.entries.StmtReply.TheVariants.{Refused};
     ghost use Rattle.account_history.specs.declared.entries.Who.TheVariants.{Login};
     ghost use Rattle.account_machine.specs.Agreeing.{Agrees};
+    ghost use Rattle.account_machine.specs.Committing.{execution_of, has_failed, told_after};
     ghost use Rattle.account_machine.specs.Labels.{ShowsFewLabels};
     ghost use Rattle.account_machine.specs.Loading.{AreLoadable, IsFault, IsLoaded, Loads, loaded};
     ghost use Rattle.account_machine.specs.Openings.{are_openings, opening_start};
+    ghost use Rattle.account_machine.specs.Preparing.{who_of};
     ghost use Rattle.account_rules.specs.declared.accounts.Account.{Account};
+    ghost use Rattle.lg_outside.specs.Faults.{Rose};
     ghost use Rattle.lg_outside.specs.Keeping.{Ascend};
-    ghost use Rattle.std.specs.Prelude.{◌≡◌, [], IfErr, IfOk, IfSome, IsTrue, List};
+    ghost use Rattle.std.specs.Prelude.{◌≡◌, ◌≤◌, max, [], None, IfErr, IfOk, IfSome, IsTrue, List, OnErr};
 
     /// The accounts of a start: `'root'@'localhost'` with number 1, without a password and with both
     /// privileges, and a native account at `localhost` for each of `extra`, with the next numbers. Each
@@ -204,5 +213,197 @@ impl Accounts {
             reply: &reply,
         });
         reply
+    }
+
+    /// Executes an account statement that the account with the number `actor` asks for. `salt` is what a new password of
+    /// the caching method takes. The statement is refused, or done, or the keeper fails; where there is a refusal, the
+    /// keeper isn't called. After `Memory` nothing has changed, neither here nor at the keeper. `Memory` is also answered
+    /// where a number, or the count of changes, is at the end of its type, and where the account that the statement
+    /// makes has no record.
+    pub fn commit_here<K: Keeper>(
+        &mut self,
+        alloc: Global,
+        statement: &Statement,
+        salt: &[u8; 20],
+        actor: u64,
+        reading: u64,
+        keeper: &mut K,
+    ) -> Result<StmtReply, Memory>
+        requires { last_count (history self.old) ≤ K.fault_count keeper.old }
+        ensures entry { IfOk result (λ reply. self.new ≡ noted self.old (Executed
+            (execution_of (history self.old) statement.now salt.now actor reading (K.fault_count keeper.new) reply))) }
+        ensures reply { IfOk result (λ reply. reply ≡ statement_reply (history self.old) statement.now actor reading
+            (has_failed (history self.old) statement.now actor reading reply)) }
+        ensures cause { IfOk result (λ reply. IsTrue (has_failed (history self.old) statement.now actor reading reply)
+            → IsTrue (changes_accounts statement.now) × Rose (K.fault_count keeper.old) (K.fault_count keeper.new)) }
+        ensures rows { IfOk result (λ reply. K.told_rows keeper.new
+            ≡ told_after (history self.old) statement.now salt.now actor reading reply (K.told_rows keeper.old)) }
+        ensures rising { K.fault_count keeper.old ≤ K.fault_count keeper.new }
+        ensures count { last_count (history self.new) ≤ K.fault_count keeper.new }
+        ensures err { OnErr result (self.new ≡ self.old) }
+        ensures err_rows { OnErr result (K.told_rows keeper.new ≡ K.told_rows keeper.old) }
+    {
+        match self.refusal(alloc, statement, actor, reading) {
+            Ok(Some(code)) => {
+                let count = keeper.faults();
+                Ok(self.refuse(statement, salt, actor, reading, count, code))
+            }
+            Ok(None) => self.carry_out(alloc, statement, salt, actor, reading, keeper),
+            Err(fault) => Err(fault),
+        }
+    }
+
+    /// Executes a CREATE USER or an ALTER USER that was prepared on a look at the account that it is about, as it is now.
+    /// The rest is as with [`Accounts::commit_here`].
+    pub fn commit<K: Keeper>(
+        &mut self,
+        alloc: Global,
+        prepared: &Prepared,
+        actor: u64,
+        reading: u64,
+        keeper: &mut K,
+    ) -> Result<StmtReply, Memory>
+        requires look { Agrees (history self.old) (who_of actor prepared.now.statement) prepared.now.look }
+        requires actor { actor ≡ prepared.now.actor }
+        requires count { last_count (history self.old) ≤ K.fault_count keeper.old }
+        ensures entry { IfOk result (λ reply. self.new ≡ noted self.old (Executed
+            (execution_of (history self.old) prepared.now.statement prepared.now.salt actor reading (K.fault_count keeper.new) reply))) }
+        ensures reply { IfOk result (λ reply. reply ≡ statement_reply (history self.old) prepared.now.statement actor reading
+            (has_failed (history self.old) prepared.now.statement actor reading reply)) }
+        ensures cause { IfOk result (λ reply. IsTrue (has_failed (history self.old) prepared.now.statement actor reading reply)
+            → IsTrue (changes_accounts prepared.now.statement) × Rose (K.fault_count keeper.old) (K.fault_count keeper.new)) }
+        ensures rows { IfOk result (λ reply. K.told_rows keeper.new
+            ≡ told_after (history self.old) prepared.now.statement prepared.now.salt actor reading reply (K.told_rows keeper.old)) }
+        ensures rising { K.fault_count keeper.old ≤ K.fault_count keeper.new }
+        ensures count { last_count (history self.new) ≤ K.fault_count keeper.new }
+        ensures err { OnErr result (self.new ≡ self.old) }
+        ensures err_rows { OnErr result (K.told_rows keeper.new ≡ K.told_rows keeper.old) }
+    {
+        self.commit_here(
+            alloc,
+            prepared.statement(),
+            prepared.salt(),
+            actor,
+            reading,
+            keeper,
+        )
+    }
+
+    /// The moment of an entry at a reading of the clock: not earlier than the one before.
+    fn moment_at(&self, reading: u64) -> u64
+        ensures { result ≡ max reading (moment (history self.now)) }
+    {
+        let _log = &self.log;
+        self.moment.max(reading)
+    }
+
+    /// Why a statement is refused.
+    fn refusal(
+        &self,
+        alloc: Global,
+        statement: &Statement,
+        actor: u64,
+        reading: u64,
+    ) -> Result<Option<Code>, Memory>
+        ensures { IfOk result (λ r. r ≡ statement_refusal (history self.now) statement.now actor reading) }
+    {
+        let now = self.moment_at(reading);
+        let settings = self.settings;
+        let refusal = first_refusal(
+            alloc,
+            self.rows.as_slice(),
+            &settings,
+            statement,
+            actor,
+            now,
+        )?;
+        Ok(refusal)
+    }
+
+    /// Notes a statement that changes no account.
+    fn refuse(
+        &mut self,
+        statement: &Statement,
+        salt: &[u8; 20],
+        actor: u64,
+        reading: u64,
+        count: u64,
+        code: Code,
+    ) -> StmtReply
+        requires { IsExecuted (history self.old) (execution_of (history self.old) statement.now salt.now actor reading count (Refused code)) }
+        ensures entry { self.new ≡ noted self.old (Executed
+            (execution_of (history self.old) statement.now salt.now actor reading count (Refused code))) }
+        ensures reply { result ≡ Refused code }
+    {
+        let reply = StmtReply::Refused(code);
+        self.moment = self.moment_at(reading);
+        self.log = GhostValue::of(&StatementNote {
+            log: &self.log,
+            statement,
+            salt,
+            actor,
+            reading,
+            count,
+            reply: &reply,
+        });
+        reply
+    }
+
+    /// Does a statement that isn't refused.
+    fn carry_out<K: Keeper>(
+        &mut self,
+        alloc: Global,
+        statement: &Statement,
+        salt: &[u8; 20],
+        actor: u64,
+        reading: u64,
+        keeper: &mut K,
+    ) -> Result<StmtReply, Memory>
+        requires refusal { statement_refusal (history self.old) statement.now actor reading ≡ None }
+        requires count { last_count (history self.old) ≤ K.fault_count keeper.old }
+        ensures entry { IfOk result (λ reply. self.new ≡ noted self.old (Executed
+            (execution_of (history self.old) statement.now salt.now actor reading (K.fault_count keeper.new) reply))) }
+        ensures reply { IfOk result (λ reply. reply ≡ statement_reply (history self.old) statement.now actor reading
+            (has_failed (history self.old) statement.now actor reading reply)) }
+        ensures cause { IfOk result (λ reply. IsTrue (has_failed (history self.old) statement.now actor reading reply)
+            → IsTrue (changes_accounts statement.now) × Rose (K.fault_count keeper.old) (K.fault_count keeper.new)) }
+        ensures rows { IfOk result (λ reply. K.told_rows keeper.new
+            ≡ told_after (history self.old) statement.now salt.now actor reading reply (K.told_rows keeper.old)) }
+        ensures rising { K.fault_count keeper.old ≤ K.fault_count keeper.new }
+        ensures err { OnErr result (self.new ≡ self.old) }
+        ensures err_rows { OnErr result (K.told_rows keeper.new ≡ K.told_rows keeper.old) }
+    {
+        let now = self.moment_at(reading);
+        let numbers = next_numbers(&self.numbers, statement)?;
+        let changes = next_change(self.changes)?;
+        let done = perform(
+            alloc,
+            &mut self.rows,
+            &mut self.stamps,
+            &self.numbers,
+            statement,
+            salt,
+            actor,
+            now,
+            keeper,
+        )?;
+        let count = keeper.faults();
+        if !done {
+            return Ok(self.refuse(statement, salt, actor, reading, count, Code::KeeperFault));
+        }
+        let reply = StmtReply::Done;
+        self.moment = now;
+        self.numbers = numbers;
+        self.changes = changes;
+        self.log = GhostValue::of(&StatementNote {
+            log: &self.log,
+            statement,
+            salt,
+            actor,
+            reading,
+            count,
+            reply: &reply,
+        });
+        Ok(reply)
     }
 }

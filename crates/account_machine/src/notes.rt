@@ -1,14 +1,16 @@
 //! What a call adds to the history, as a value that only contracts read.
 
-ghost use Rattle.account_history.specs.Histories.{noted};
-ghost use Rattle.account_history.specs.declared.entries.Entry.TheVariants.{Attempted, Observed};
+ghost use Rattle.account_history.specs.Histories.{history, noted};
+ghost use Rattle.account_history.specs.declared.entries.Entry.TheVariants.{Attempted, Executed, Observed};
+ghost use Rattle.account_machine.specs.Committing.{execution_of};
 ghost use Rattle.account_machine.specs.Openings.{opening_start};
 ghost use Rattle.std.specs.Prelude.{[]};
 
-use account_history::{Log, Opening, Reply, Who};
+use account_history::{Log, Opening, Reply, StmtReply, Who};
 use account_rules::Settings;
 use factor_chain::{Evidences, Look};
 use ghost_value::{Denotes, GhostValue};
+use stmt_rules::Statement;
 
 /// A history that starts with these accounts beside `root`.
 #[derive(Drop)]
@@ -63,4 +65,21 @@ impl<'a> Denotes<Log> for AttemptNote<'a> {
       reading = n.reading;
       reply = n.reply.now;
     })) };
+}
+
+/// A history with one statement more.
+#[derive(Drop)]
+pub struct StatementNote<'a> {
+    pub log: &'a GhostValue<Log>,
+    pub statement: &'a Statement,
+    pub salt: &'a [u8; 20],
+    pub actor: u64,
+    pub reading: u64,
+    pub count: u64,
+    pub reply: &'a StmtReply,
+}
+
+impl<'a> Denotes<Log> for StatementNote<'a> {
+    ghost denoted = { λ n. noted n.log.now.value (Executed (execution_of (history n.log.now.value)
+        n.statement.now n.salt.now n.actor n.reading n.count n.reply.now)) };
 }

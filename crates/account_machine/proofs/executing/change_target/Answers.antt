@@ -8,10 +8,11 @@ use Rattle.account_machine.specs.Looks.{accounts_of}
 use Rattle.account_machine.specs.Targets.{place_of_target}
 use Rattle.account_machine.specs.declared.rows.Row.{Row}
 use Rattle.account_machine.proofs.Replaced.{changed-there, done-as, found-there}
+use Rattle.account_machine.proofs.Unrefused.{no-place}
 use Rattle.account_machine.proofs.executing.change_target.Goals as goal
 
-pub returns-in_ok-row-in-Some-clause-fits : goal.returns-in_ok-row-in-Some-clause-fits
-returns-in_ok-row-in-Some-clause-fits g c =
+pub returns-clause-fits : goal.returns-clause-fits
+returns-clause-fits g c =
     let p : place_of_target c.args.rows.now.items c.args.statement.now c.args.actor ≡ Some c.in-Some.place =
     ap (λ (rows : List Row). place_of_target rows c.args.statement.now c.args.actor) (sym c.as_slice.ensures.value) ∙ sym c.in-Some.ensures in
     let found : target_of (accounts_of c.args.rows.now.items) c.args.statement.now c.args.actor ≡ Some c.index.result.now.account =
@@ -22,8 +23,8 @@ returns-in_ok-row-in-Some-clause-fits g c =
     subst (λ (t : Option Account). IfOk c.replace.result (λ (_ : Bool). IfSome t (λ a. FitsRecord (next a)))) (sym found)
     (subst (λ (a : Account). IfOk c.replace.result (λ (_ : Bool). FitsRecord a)) (ap (λ (row : Row). row.account) new) c.replace.ensures.fits)
 
-pub returns-in_ok-row-in-Some-clause-done : goal.returns-in_ok-row-in-Some-clause-done
-returns-in_ok-row-in-Some-clause-done g c =
+pub returns-clause-done : goal.returns-clause-done
+returns-clause-done g c =
     let p : place_of_target c.args.rows.now.items c.args.statement.now c.args.actor ≡ Some c.in-Some.place =
     ap (λ (rows : List Row). place_of_target rows c.args.statement.now c.args.actor) (sym c.as_slice.ensures.value) ∙ sym c.in-Some.ensures in
     let change : Row → Row = row_with (clears_of c.args.statement.now) (next_of c.args.statement.now (given_of c.args.numbers.now) c.args.salt.now c.args.now) in
@@ -34,8 +35,8 @@ returns-in_ok-row-in-Some-clause-done g c =
     ∙ changed-there (λ (row : Row). is_named_by c.args.statement.now c.args.actor row.account) change c.index.result.now c.args.rows.now.items c.in-Some.place p c.index.ensures)
     c.replace.ensures.done
 
-pub returns-in_ok-row-in-Some-clause-kept : goal.returns-in_ok-row-in-Some-clause-kept
-returns-in_ok-row-in-Some-clause-kept g c =
+pub returns-clause-kept : goal.returns-clause-kept
+returns-clause-kept g c =
     let p : place_of_target c.args.rows.now.items c.args.statement.now c.args.actor ≡ Some c.in-Some.place =
     ap (λ (rows : List Row). place_of_target rows c.args.statement.now c.args.actor) (sym c.as_slice.ensures.value) ∙ sym c.in-Some.ensures in
     let found : target_of (accounts_of c.args.rows.now.items) c.args.statement.now c.args.actor ≡ Some c.index.result.now.account =
@@ -47,3 +48,8 @@ returns-in_ok-row-in-Some-clause-kept g c =
     (sym found)
     (subst (λ (a : Account). Keeps (put_account a) (g.K.Keeper.told_rows c.args.keeper.now) (g.K.Keeper.told_rows c.replace.new.keeper) c.replace.result)
     (ap (λ (row : Row). row.account) new) c.replace.ensures.rows)
+
+pub unreachable-requires : goal.unreachable-requires
+unreachable-requires g c =
+    no-place c.args.rows.now.items c.args.statement.now c.args.actor c.requires.found
+    (ap (λ (rows : List Row). place_of_target rows c.args.statement.now c.args.actor) (sym c.as_slice.ensures.value) ∙ sym c.in-None.ensures)

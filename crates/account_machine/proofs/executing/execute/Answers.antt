@@ -1,4 +1,4 @@
-use Rattle.std.proofs.Common.{◌≡◌, sym, subst, Bool, IfSome, IfOk, if◌then◌else◌}
+use Rattle.std.proofs.Common.{◌≡◌, ap, sym, subst, Bool, IfSome, IfOk, if◌then◌else◌}
 use Rattle.account_keeper.specs.Record.{FitsRecord}
 use Rattle.account_history.specs.Effects.{without}
 use Rattle.account_history.specs.Targets.{is_named_by, target_of}
@@ -7,6 +7,7 @@ use Rattle.account_machine.specs.Executing.{NextFits, given_of, kept_after, next
 use Rattle.account_machine.specs.Keeping.{Keeps}
 use Rattle.account_machine.specs.Looks.{accounts_of}
 use Rattle.account_machine.specs.declared.rows.Row.{Row}
+use Rattle.account_machine.proofs.Unrefused.{is_about_one, one-found}
 use Rattle.account_machine.proofs.executing.execute.Goals as goal
 
 pub returns-in-Alter-clause-fits : goal.returns-in-Alter-clause-fits
@@ -64,3 +65,19 @@ returns-in-Drop-clause-kept g c =
     Keeps (remove_target (target_of (accounts_of c.args.rows.now.items) st c.args.actor)) (g.K.Keeper.told_rows c.args.keeper.now) (g.K.Keeper.told_rows c.drop_target.new.keeper) c.drop_target.result
     → Keeps (kept_after st (given_of c.args.numbers.now) c.args.actor c.args.salt.now c.args.now (accounts_of c.args.rows.now.items)) (g.K.Keeper.told_rows c.args.keeper.now) (g.K.Keeper.told_rows c.drop_target.new.keeper) c.drop_target.result in
     subst P (sym c.in-Drop.is) (λ h. h) c.drop_target.ensures.kept
+
+pub change_target-requires-clause-found : goal.change_target-requires-clause-found
+change_target-requires-clause-found g c =
+    one-found c.args.statement.now (target_of (accounts_of c.args.rows.now.items) c.args.statement.now c.args.actor) (ap is_about_one c.in-Alter.is) c.requires.placed
+
+pub drop_target-requires : goal.drop_target-requires
+drop_target-requires g c =
+    one-found c.args.statement.now (target_of (accounts_of c.args.rows.now.items) c.args.statement.now c.args.actor) (ap is_about_one c.in-Drop.is) c.requires.placed
+
+pub change_target-requires-in-Grant-clause-found : goal.change_target-requires-in-Grant-clause-found
+change_target-requires-in-Grant-clause-found g c =
+    one-found c.args.statement.now (target_of (accounts_of c.args.rows.now.items) c.args.statement.now c.args.actor) (ap is_about_one c.in-Grant.is) c.requires.placed
+
+pub change_target-requires-in-Revoke-clause-found : goal.change_target-requires-in-Revoke-clause-found
+change_target-requires-in-Revoke-clause-found g c =
+    one-found c.args.statement.now (target_of (accounts_of c.args.rows.now.items) c.args.statement.now c.args.actor) (ap is_about_one c.in-Revoke.is) c.requires.placed
