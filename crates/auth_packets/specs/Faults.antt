@@ -7,3 +7,8 @@ use Rattle.auth_packets.specs.declared.fault.PacketFault.TheVariants.{Malformed,
 abbrev pub malformed_at : PacketFault → Option ℕ
 malformed_at (Malformed at) = Some at
 malformed_at Memory = None
+
+-- the fault tells of the payload: it isn't want of memory
+abbrev pub IsTold : PacketFault → Type 0
+IsTold (Malformed at) = Unit {0}
+IsTold Memory = ⊥

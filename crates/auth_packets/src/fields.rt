@@ -1,7 +1,7 @@
 //! Fields that several messages have, read into memory of their own.
 
-ghost use Rattle.auth_packets.specs.Faults.{malformed_at};
-ghost use Rattle.std.specs.Prelude.{◌↔◌, ◌<◌, Contains, IsTrue};
+ghost use Rattle.auth_packets.specs.Faults.{IsTold, malformed_at};
+ghost use Rattle.std.specs.Prelude.{◌↔◌, ◌<◌, Contains, IfErr, IsTrue};
 ghost use Rattle.wire_form.specs.Fields.{bytes, chosen, counted, lenenc, mark, name, number, optional};
 ghost use Rattle.wire_form.specs.Forms.{◌▹◌, nothing, rest};
 ghost use Rattle.wire_form.specs.Payloads.{Gives, GivesAs, Steps};
@@ -74,7 +74,8 @@ pub(crate) fn read_optional_counted(
 
 /// The byte that a message begins with, or another that has to stand there.
 pub(crate) fn read_mark(byte: u8, reader: &mut Reader) -> Result<(), PacketFault>
-    ensures { Steps (λ x. x) malformed_at reader.new result ((mark byte).read reader.old) }
+    ensures steps { Steps (λ x. x) malformed_at reader.new result ((mark byte).read reader.old) }
+    ensures told { IfErr result IsTold }
 {
     let at = reader.at();
     let x = reader.read_u8()?;
@@ -86,7 +87,8 @@ pub(crate) fn read_mark(byte: u8, reader: &mut Reader) -> Result<(), PacketFault
 
 /// That no byte is left.
 pub(crate) fn read_end(reader: &mut Reader) -> Result<(), PacketFault>
-    ensures { Gives malformed_at result (nothing.read reader.old) }
+    ensures gives { Gives malformed_at result (nothing.read reader.old) }
+    ensures told { IfErr result IsTold }
 {
     match reader.peek() {
         None => Ok(()),

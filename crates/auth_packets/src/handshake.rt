@@ -103,45 +103,58 @@ impl Greeting {
 /// What a greeting begins with.
 #[derive(Drop)]
 struct Opening {
-    version: Bytes,
-    id: u32,
-    first: [u8; 8],
+    server_version: Bytes,
+    thread_id: u32,
+    auth_plugin_data_part_1: [u8; 8],
 }
 
 /// What a greeting says of the session.
 #[derive(Clone, Copy)]
 struct Session {
-    lower: u16,
-    charset: u8,
-    status: u16,
-    upper: u16,
+    capability_flags_1: u16,
+    character_set: u8,
+    status_flags: u16,
+    capability_flags_2: u16,
 }
 
 #[tactic(auto, unfolding(crate::specs::Handshake::opening))]
 fn read_opening(alloc: Global, reader: &mut Reader) -> Result<Opening, PacketFault>
-    ensures { Steps (λ x. (tt, (x.version, (x.id, (x.first, tt))))) malformed_at reader.new result (opening.read reader.old) }
+    ensures { Steps (λ x. (tt, (x.server_version, (x.thread_id, (x.auth_plugin_data_part_1, tt))))) malformed_at reader.new result (opening.read reader.old) }
 {
+    // protocol version [1 byte]
     read_mark(0x0a, reader)?;
-    let version = read_name(alloc, reader)?;
-    let id = reader.read_u32()?;
-    let first = read_array(reader)?;
+    // server version [a text and 00]
+    let server_version = read_name(alloc, reader)?;
+    // thread id [4 bytes]
+    let thread_id = reader.read_u32()?;
+    // auth-plugin-data-part-1 [8 bytes]
+    let auth_plugin_data_part_1 = read_array(reader)?;
+    // filler [1 byte]
     reader.take(1)?;
-    Ok(Opening { version, id, first })
+    Ok(Opening {
+        server_version,
+        thread_id,
+        auth_plugin_data_part_1,
+    })
 }
 
 #[tactic(auto, unfolding(crate::specs::Handshake::session))]
 fn read_session(reader: &mut Reader) -> Result<Session, PacketFault>
-    ensures { Steps (λ x. (x.lower, (x.charset, (x.status, x.upper)))) malformed_at reader.new result (session.read reader.old) }
+    ensures { Steps (λ x. (x.capability_flags_1, (x.character_set, (x.status_flags, x.capability_flags_2)))) malformed_at reader.new result (session.read reader.old) }
 {
-    let lower = read_lower(reader)?;
-    let charset = reader.read_u8()?;
-    let status = reader.read_u16()?;
-    let upper = read_upper(reader)?;
+    // capability_flags_1 [2 bytes]
+    let capability_flags_1 = read_lower(reader)?;
+    // character_set [1 byte]
+    let character_set = reader.read_u8()?;
+    // status_flags [2 bytes]
+    let status_flags = reader.read_u16()?;
+    // capability_flags_2 [2 bytes]
+    let capability_flags_2 = read_upper(reader)?;
     Ok(Session {
-        lower,
-        charset,
-        status,
-        upper,
+        capability_flags_1,
+        character_set,
+        status_flags,
+        capability_flags_2,
     })
 }
 
@@ -162,14 +175,17 @@ fn read_nonce_end(length: u8, reader: &mut Reader) -> Result<(), PacketFault>
 fn read_nonce(reader: &mut Reader) -> Result<(u8, [u8; 12]), PacketFault>
     ensures { Steps (λ x. ((x.0, tt), (x.1, tt))) malformed_at reader.new result (nonce.read reader.old) }
 {
-    let length = reader.read_u8()?;
+    // auth_plugin_data_len [1 byte]
+    let auth_plugin_data_len = reader.read_u8()?;
+    // reserved [10 bytes]
     reader.take(10)?;
-    let second = read_array(reader)?;
-    read_nonce_end(length, reader)?;
-    Ok((length, second))
+    // auth-plugin-data-part-2 [max(13, auth_plugin_data_len - 8) bytes]
+    let auth_plugin_data_part_2 = read_array(reader)?;
+    read_nonce_end(auth_plugin_data_len, reader)?;
+    Ok((auth_plugin_data_len, auth_plugin_data_part_2))
 }
 
-/// The plugin's name, which is the last field: its 00 may be missing.
+/// auth_plugin_name [a text and 00], the last field: its 00 may be missing.
 fn read_last_name(alloc: Global, reader: &mut Reader) -> Result<Bytes, PacketFault>
     ensures { GivesAs (λ x. (x, tt)) malformed_at result ((last_name nothing tt).read reader.old) }
 {
@@ -200,15 +216,16 @@ fn read_greeting(alloc: Global, payload: &[u8]) -> Result<Greeting, PacketFault>
     let mut reader = Reader::new(payload);
     let opening = read_opening(alloc, &mut reader)?;
     let session = read_session(&mut reader)?;
-    let (_, second) = read_nonce(&mut reader)?;
+    let (_, auth_plugin_data_part_2) = read_nonce(&mut reader)?;
     let plugin = read_last_name(alloc, &mut reader)?;
     Ok(Greeting {
-        version: opening.version,
-        id: opening.id,
-        nonce: joined(opening.first, second),
-        flags: u32::from(session.lower) + 0x1_0000 * u32::from(session.upper),
-        charset: session.charset,
-        status: session.status,
+        version: opening.server_version,
+        id: opening.thread_id,
+        nonce: joined(opening.auth_plugin_data_part_1, auth_plugin_data_part_2),
+        flags: u32::from(session.capability_flags_1)
+            + 0x1_0000 * u32::from(session.capability_flags_2),
+        charset: session.character_set,
+        status: session.status_flags,
         plugin,
     })
 }
@@ -400,34 +417,39 @@ fn write_response(response: &Response, out: &mut Out) -> Result<(), Memory>
 /// What a response begins with.
 #[derive(Drop)]
 struct Client {
-    flags: u32,
-    max_packet: u32,
-    charset: u8,
-    user: Bytes,
+    client_flag: u32,
+    max_packet_size: u32,
+    character_set: u8,
+    username: Bytes,
 }
 
 /// What the client says to be let in.
 #[derive(Drop)]
 struct Claim {
-    auth: Bytes,
+    auth_response: Bytes,
     database: Option<Bytes>,
-    plugin: Bytes,
+    client_plugin_name: Bytes,
 }
 
 #[tactic(auto, unfolding(crate::specs::Handshake::client))]
 fn read_client(alloc: Global, reader: &mut Reader) -> Result<Client, PacketFault>
-    ensures { Steps (λ x. (x.flags, (x.max_packet, (x.charset, (tt, x.user))))) malformed_at reader.new result (client.read reader.old) }
+    ensures { Steps (λ x. (x.client_flag, (x.max_packet_size, (x.character_set, (tt, x.username))))) malformed_at reader.new result (client.read reader.old) }
 {
-    let flags = read_flags(reader)?;
-    let max_packet = reader.read_u32()?;
-    let charset = reader.read_u8()?;
+    // client_flag [4 bytes]
+    let client_flag = read_flags(reader)?;
+    // max_packet_size [4 bytes]
+    let max_packet_size = reader.read_u32()?;
+    // character_set [1 byte]
+    let character_set = reader.read_u8()?;
+    // filler [23 bytes]
     reader.take(23)?;
-    let user = read_name(alloc, reader)?;
+    // username [a text and 00]
+    let username = read_name(alloc, reader)?;
     Ok(Client {
-        flags,
-        max_packet,
-        charset,
-        user,
+        client_flag,
+        max_packet_size,
+        character_set,
+        username,
     })
 }
 
@@ -451,15 +473,18 @@ fn read_database(
 
 #[tactic(auto, unfolding(crate::specs::Handshake::claim))]
 fn read_claim(alloc: Global, flags: u32, reader: &mut Reader) -> Result<Claim, PacketFault>
-    ensures { Steps (λ x. (x.auth, (x.database, x.plugin))) malformed_at reader.new result ((claim flags).read reader.old) }
+    ensures { Steps (λ x. (x.auth_response, (x.database, x.client_plugin_name))) malformed_at reader.new result ((claim flags).read reader.old) }
 {
-    let auth = read_answer(alloc, flags, reader)?;
+    // auth_response [a length, length-encoded or in 1 byte, and so many bytes]
+    let auth_response = read_answer(alloc, flags, reader)?;
+    // database [a text and 00, with CLIENT_CONNECT_WITH_DB]
     let database = read_database(alloc, flags, reader)?;
-    let plugin = read_name(alloc, reader)?;
+    // client_plugin_name [a text and 00]
+    let client_plugin_name = read_name(alloc, reader)?;
     Ok(Claim {
-        auth,
+        auth_response,
         database,
-        plugin,
+        client_plugin_name,
     })
 }
 
@@ -480,17 +505,18 @@ fn read_response(alloc: Global, payload: &[u8]) -> Result<Response, PacketFault>
 {
     let mut reader = Reader::new(payload);
     let client = read_client(alloc, &mut reader)?;
-    let claim = read_claim(alloc, client.flags, &mut reader)?;
-    let attributes = read_attributes(alloc, client.flags, &mut reader)?;
+    let claim = read_claim(alloc, client.client_flag, &mut reader)?;
+    // attributes [a length-encoded length and so many bytes, with CLIENT_CONNECT_ATTRS]
+    let attributes = read_attributes(alloc, client.client_flag, &mut reader)?;
     let rest = Bytes::copy(alloc, reader.rest())?;
     Ok(Response {
-        flags: client.flags,
-        max_packet: client.max_packet,
-        charset: client.charset,
-        user: client.user,
-        auth: claim.auth,
+        flags: client.client_flag,
+        max_packet: client.max_packet_size,
+        charset: client.character_set,
+        user: client.username,
+        auth: claim.auth_response,
         database: claim.database,
-        plugin: claim.plugin,
+        plugin: claim.client_plugin_name,
         attributes,
         rest,
     })

@@ -1,8 +1,8 @@
 //! What ends an exchange: OK, ERR and EOF ("Generic Response Packets").
 
-ghost use Rattle.auth_packets.specs.Faults.{malformed_at};
+ghost use Rattle.auth_packets.specs.Faults.{IsTold, malformed_at};
 ghost use Rattle.auth_packets.specs.Replies.{eof_packet, eof_text, err_packet, err_text, ok_packet, ok_text, state_and_text};
-ghost use Rattle.std.specs.Prelude.{◌≡◌, ◌++◌, IsTrue, OnOk, OnErr};
+ghost use Rattle.std.specs.Prelude.{◌≡◌, ◌++◌, IfErr, IsTrue, OnOk, OnErr};
 ghost use Rattle.wire_form.specs.Payloads.{Gives, GivesAs, IsReadAs, start};
 
 use crate::fault::PacketFault;
@@ -127,10 +127,11 @@ fn write_err(packet: &ErrPacket, out: &mut Out) -> Result<(), Memory>
 }
 
 impl EofPacket {
-    /// Reads a payload that is an EOF, exactly where it spells one.
+    /// Reads a payload that is an EOF, exactly where it spells one. It takes no memory, so it never answers `Memory`.
     #[tactic(auto, using(crate::proofs::RepliesLaws::eof_read))]
     pub fn read(payload: &[u8]) -> Result<EofPacket, PacketFault>
-        ensures { IsReadAs malformed_at eof_packet.Spells payload.now result }
+        ensures reads { IsReadAs malformed_at eof_packet.Spells payload.now result }
+        ensures told { IfErr result IsTold }
     {
         read_eof(payload)
     }
@@ -218,7 +219,8 @@ fn read_err(alloc: Global, payload: &[u8]) -> Result<ErrPacket, PacketFault>
 
 #[tactic(auto, unfolding(crate::specs::Replies::eof_packet))]
 fn read_eof(payload: &[u8]) -> Result<EofPacket, PacketFault>
-    ensures { Gives malformed_at result (eof_packet.read (start payload.now)) }
+    ensures gives { Gives malformed_at result (eof_packet.read (start payload.now)) }
+    ensures told { IfErr result IsTold }
 {
     let mut reader = Reader::new(payload);
     read_mark(0xfe, &mut reader)?;

@@ -8,6 +8,7 @@ pub mod Opened
 pub mod Opening
 pub mod Packets
 pub mod Reaching
+pub mod Reasons
 pub mod Responses
 pub mod Standing
 pub mod Talking

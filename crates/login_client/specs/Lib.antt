@@ -8,6 +8,7 @@ pub mod Hearing
 pub mod Methods
 pub mod Phases
 pub mod Reading
+pub mod Reasons
 pub mod Secrets
 pub mod Talk
 pub mod Talked

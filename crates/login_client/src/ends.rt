@@ -3,7 +3,8 @@
 use lg_base::Bytes;
 use packet_frame::FrameFault;
 
-/// Why a client doesn't answer what it was asked for. Where several hold it is the first one.
+/// Why a client doesn't answer what it was asked for. Where several hold it is the first one, by `first_reason` of
+/// specs/Reasons.antt.
 #[derive(Clone, Copy, Debug, PartialEq, Eq)]
 pub enum Reason {
     /// It doesn't know the method.

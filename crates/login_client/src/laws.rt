@@ -9,6 +9,7 @@ ghost use Rattle.login_client.specs.Exchange.{Ends, EndsAs, EndsAsDue, EndsWithi
 ghost use Rattle.login_client.specs.Heard.{heard_of};
 ghost use Rattle.login_client.specs.Hearing.{IsHeard};
 ghost use Rattle.login_client.specs.declared.ends.ClientAct.TheVariants.{Done};
+ghost use Rattle.login_client.specs.Reasons.{FactorsGoByReasons, PasswordsGoByReasons, SwitchesGoByReasons};
 ghost use Rattle.login_client.specs.Secrets.{KeepsTo};
 ghost use Rattle.login_client.specs.Talk.{IsWaiting, Leads, Talk};
 ghost use Rattle.login_client.specs.Talked.{AreGot, AreWritten, Talked, result_in, said_by};
@@ -44,6 +45,13 @@ pub fn clients_follow_their_talk()
     ensures { (start : Talk) (got written : List (List ℕ)) (now : Talk) (packet : Packet) (act : Option ClientAct) (next : Talk) →
         Leads start got written now → IsWaiting now → Acts now packet act next →
         Leads start (got ++ packet.payload ∷ []) (written ++ said_by act) next }
+{}
+
+/// Why a client doesn't say a secret in the clear is the first reason of one list that holds.
+pub fn reasons_have_an_order()
+    ensures factors { FactorsGoByReasons }
+    ensures switches { SwitchesGoByReasons }
+    ensures password { PasswordsGoByReasons }
 {}
 
 /// A client comes nearer to its end with each packet, and is done by what its talk decides: `Opened`, `Refused`,

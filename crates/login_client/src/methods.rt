@@ -2,7 +2,7 @@
 //!
 //! MySQL client/server protocol documentation, "Authentication Methods".
 
-ghost use Rattle.login_client.specs.Methods.{answer_of, caching_name, clear_text, first_method, is_nonce_end, method_of, name_of, native_name, nonce_of, scrambled};
+ghost use Rattle.login_client.specs.Methods.{answer_of, caching_name, clear_name, clear_text, first_method, is_nonce_end, method_of, name_of, native_name, nonce_of, scrambled};
 ghost use Rattle.std.specs.Prelude.{◌≡◌, ◌<◌, IfOk, length};
 
 use lg_base::{Bytes, Memory, Out};
@@ -18,18 +18,38 @@ pub enum Method {
     Unknown,
 }
 
+#[tactic(auto, unfolding(crate::specs::Methods::native_name))]
+fn native() -> &'static [u8]
+    ensures { result.now ≡ native_name }
+{
+    b"mysql_native_password"
+}
+
+#[tactic(auto, unfolding(crate::specs::Methods::caching_name))]
+fn caching() -> &'static [u8]
+    ensures { result.now ≡ caching_name }
+{
+    b"caching_sha2_password"
+}
+
+#[tactic(auto, unfolding(crate::specs::Methods::clear_name))]
+fn in_the_clear() -> &'static [u8]
+    ensures { result.now ≡ clear_name }
+{
+    b"mysql_clear_password"
+}
+
 /// The method that a name stands for.
-#[tactic(auto, unfolding(crate::specs::Methods::native_name, crate::specs::Methods::caching_name, crate::specs::Methods::clear_name))]
 pub(crate) fn method_of(name: &[u8]) -> Method
     ensures { result ≡ method_of name.now }
 {
-    if name == b"mysql_native_password".as_slice() {
+    if name == native() {
         return Method::Native;
     }
-    if name == b"caching_sha2_password".as_slice() {
+    if name == caching() {
         return Method::CachingSha2;
     }
-    if name == b"mysql_clear_password".as_slice() {
+    if name == in_the_clear() {
         return Method::Clear;
     }
     Method::Unknown
@@ -43,20 +63,6 @@ pub(crate) fn first_method(method: Method) -> Method
         Method::Native => Method::Native,
         Method::CachingSha2 | Method::Clear | Method::Unknown => Method::CachingSha2,
     }
-}
-
-#[tactic(auto, unfolding(crate::specs::Methods::native_name))]
-fn native() -> &'static [u8]
-    ensures { result.now ≡ native_name }
-{
-    b"mysql_native_password"
-}
-
-#[tactic(auto, unfolding(crate::specs::Methods::caching_name))]
-fn caching() -> &'static [u8]
-    ensures { result.now ≡ caching_name }
-{
-    b"caching_sha2_password"
 }
 
 /// The name of the method that answers a greeting.
