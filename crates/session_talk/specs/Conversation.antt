@@ -15,8 +15,12 @@ use Rattle.account_history.specs.declared.entries.Who.{Who}
 use Rattle.account_history.specs.declared.entries.Who.TheVariants.{Login}
 use Rattle.auth_packets.specs.Handshake.{response}
 use Rattle.auth_packets.specs.declared.handshake.Response.{Response}
+use Rattle.interaction.specs.Talk as reading
+use Rattle.interaction.specs.Talk.{Says, Hears, Asks}
+use Rattle.session_talk.specs.declared.actions.Ask.TheVariants as ask
+use Rattle.session_talk.specs.declared.inputs.Input.TheVariants as input
 use Rattle.session_talk.specs.Logins.{clear_evidence, method_of, refusal_of, without_zero}
-use Rattle.session_talk.specs.Talk.{Talk, Says, Hears, Draws, Looks, Checks, Settles, SettlesLocked}
+use Rattle.session_talk.specs.Talk.{Begins, Own, SessionTalk}
 use Rattle.session_talk.specs.Texts.{error_payload, fast_payload, full_payload, greeting_payload, method_name, ok_payload, switch_payload}
 
 -- what happens in a session, in order
@@ -141,16 +145,19 @@ pub record Conversation (id : ℕ) (moves : List Move) (reply : Reply) : Type 0 
 -- ## The moves of a talk
 
 -- a talk goes on to another by these moves
-abbrev pub Goes : Talk → List Move → Talk → Type 0
-Goes (Checks look evidences t) moves after = Goes t moves after
+abbrev pub Goes : SessionTalk → List Move → SessionTalk → Type 0
+Goes (Asks (Own (ask.Check look evidences)) k) moves after =
+    Goes (k (input.Checked (record { look = look; evidences = evidences }))) moves after
 Goes t [] after = after ≡ t
 Goes (Says payload t) (Sent p ∷ moves) after = (p ≡ payload) × Goes t moves after
-Goes (Hears anew k) (Got payload ∷ moves) after = Goes (k payload) moves after
-Goes (Draws first k) (Drew nonce ∷ moves) after = Goes (k nonce) moves after
-Goes (Looks again whose k) (Looked who look ∷ moves) after = (who ≡ whose) × Goes (k look) moves after
-Goes (Settles checked flags stale k) (Stale ∷ moves) after = Goes stale moves after
-Goes (Settles checked flags stale k) (Settled user evidences given reply ∷ moves) after =
-    (user ≡ checked.look.user) × (evidences ≡ checked.evidences) × (given ≡ flags) × Goes (k reply) moves after
-Goes (SettlesLocked whose held flags k) (Settled user evidences given reply ∷ moves) after =
-    (user ≡ whose) × (evidences ≡ held) × (given ≡ flags) × Goes (k reply) moves after
+Goes (Hears anew k) (Got payload ∷ moves) after = Goes (k (reading.Got payload)) moves after
+Goes (Asks Begins k) (Drew nonce ∷ moves) after = Goes (k (input.Start nonce)) moves after
+Goes (Asks (Own ask.Draw) k) (Drew nonce ∷ moves) after = Goes (k (input.Drawn nonce)) moves after
+Goes (Asks (Own (ask.Observe whose)) k) (Looked who look ∷ moves) after = (who ≡ whose) × Goes (k (input.Looked look)) moves after
+Goes (Asks (Own (ask.Renew whose)) k) (Looked who look ∷ moves) after = (who ≡ whose) × Goes (k (input.Looked look)) moves after
+Goes (Asks (Own (ask.Settle checked flags)) k) (Stale ∷ moves) after = Goes (k (input.Stale checked.evidences)) moves after
+Goes (Asks (Own (ask.Settle checked flags)) k) (Settled user evidences given reply ∷ moves) after =
+    (user ≡ checked.look.user) × (evidences ≡ checked.evidences) × (given ≡ flags) × Goes (k (input.Settled reply)) moves after
+Goes (Asks (Own (ask.SettleLocked whose held flags)) k) (Settled user evidences given reply ∷ moves) after =
+    (user ≡ whose) × (evidences ≡ held) × (given ≡ flags) × Goes (k (input.Settled reply)) moves after
 Goes _ _ after = ⊥

@@ -2,8 +2,9 @@
 -- by the entries of the history, what its own side is answered.
 use Rattle.std.specs.Prelude.{◌≡◌, ℕ, ◌==◌, not, List, [], ◌∷◌, ◌++◌, length, Option, Some, None}
 use Rattle.packet_frame.specs.Front.{Whole, Fault}
+use Rattle.packet_stream.specs.Streams.{IsShort, Stream, all_of, behind_of, front_of}
 use Rattle.account_history.specs.declared.entries.Entry.{Entry}
-use Rattle.account_history.specs.declared.entries.Entry.TheVariants.{Observed, Attempted}
+use Rattle.interaction.specs.Talk.{Asks}
 use Rattle.session_talk.specs.declared.actions.Ask.{Ask}
 use Rattle.session_talk.specs.declared.actions.Ask.TheVariants as ask
 use Rattle.session_talk.specs.declared.ends.SessionEnd.{SessionEnd}
@@ -11,10 +12,9 @@ use Rattle.session_talk.specs.declared.inputs.Input.{Input}
 use Rattle.session_talk.specs.declared.inputs.Input.TheVariants as input
 use Rattle.session_talk.specs.Logins.{session}
 use Rattle.session_talk.specs.Runs.{Standing, owns_in, packets_in, spoken, stands_after, stands_on}
-use Rattle.session_talk.specs.Talk.{Talk, Looks, Settles, SettlesLocked}
+use Rattle.session_talk.specs.Talk.{SessionTalk}
 use Rattle.session_talk.specs.Transcript.{Closed, Failed, Open, Peer, Transcript, read_of}
-use Rattle.session_talk.specs.Turns.{asked, wanted_by}
-use Rattle.packet_stream.specs.Streams.{IsShort, Stream, all_of, behind_of, front_of}
+use Rattle.session_talk.specs.Turns.{Adds, asked, wanted_by}
 
 -- ## Reading
 
@@ -33,15 +33,10 @@ Reads peer want stream given left = left ≡ stream
 
 -- ## Answers of the own side
 
--- The entries of an answer: a look has one and a reply has one, by some reading of the clock. A nonce, the outcome of a
--- check and a stale answer have none.
-abbrev pub Adds : Talk → Input → List Entry → Type 0
-Adds (Looks again who k) (input.Looked look) added = added ≡ Observed who look ∷ []
-Adds (Settles checked flags stale k) (input.Settled reply) added =
-    (reading : ℕ) × (added ≡ Attempted (record { user = checked.look.user; evidences = checked.evidences; flags = flags; reading = reading; reply = reply }) ∷ [])
-Adds (SettlesLocked user evidences flags k) (input.Settled reply) added =
-    (reading : ℕ) × (added ≡ Attempted (record { user = user; evidences = evidences; flags = flags; reading = reading; reply = reply }) ∷ [])
-Adds t given added = added ≡ []
+-- the entries of an input: those of an answer, and none of what is read
+abbrev pub AddsAt : SessionTalk → Input → List Entry → Type 0
+AddsAt (Asks q k) given added = Adds q given added
+AddsAt t given added = added ≡ []
 
 -- ## The whole
 
@@ -51,7 +46,7 @@ abbrev pub Given : Peer → Standing → Stream → List Entry → List Input �
 Given peer s stream entries [] left = (entries ≡ []) × (left ≡ stream)
 Given peer s stream entries (given ∷ inputs) left =
     (behind : Stream) × (added : List Entry) × (more : List Entry)
-    × Reads peer (wanted_by s.next s.at) stream given behind × Adds s.at given added × (entries ≡ added ++ more)
+    × Reads peer (wanted_by s.next s.at) stream given behind × AddsAt s.at given added × (entries ≡ added ++ more)
     × Given peer (stands_on s given) behind more inputs left
 
 -- nothing more comes of these bytes and this peer: what is asked for isn't a packet, or less than one is left and the

@@ -2,6 +2,7 @@
 use Rattle.std.specs.Prelude.{◌≡◌, ◌⊎◌, IsTrue, ℕ, false, List, [], ◌∷◌, ◌++◌, Some}
 use Rattle.packet_frame.specs.Packets.{id_after}
 use Rattle.packet_frame.specs.declared.packets.Packet.{Packet}
+use Rattle.factor_chain.specs.CheckedOf.{CheckedOf}
 use Rattle.factor_chain.specs.declared.credentials.Look.{Look}
 use Rattle.factor_chain.specs.declared.evidence_list.Evidence.{Evidence}
 use Rattle.account_history.specs.declared.entries.Entry.{Entry}
@@ -12,10 +13,10 @@ use Rattle.session_talk.specs.Given.{Given, IsDone, Reads, Transcribes, asked_af
 use Rattle.packet_stream.specs.Streams.{Stream, all_of, with_more}
 use Rattle.session_talk.specs.Logins.{session, settling}
 use Rattle.session_talk.specs.Owed as owing
-use Rattle.session_talk.specs.Owed.{Own, Late, Saw, Did, owed}
+use Rattle.session_talk.specs.Owed.{owed}
 use Rattle.session_talk.specs.Runs.{AllAnswer, EachAnswers, Standing, ending_by, owns_in, packets_in, spoken, stands_after}
 use Rattle.packet_stream.specs.Sent.{sent_from}
-use Rattle.session_talk.specs.Talk.{Talk}
+use Rattle.session_talk.specs.Talk.{Own, SessionTalk}
 use Rattle.session_talk.specs.Transcript.{Open, Peer}
 use Rattle.session_talk.specs.Turns.{Answers, IsAsked, IsBegun, IsFitting, asked, is_answer, is_read, rest, said, wanted_by}
 use Rattle.session_talk.specs.Wired as wiring
@@ -23,12 +24,13 @@ use Rattle.session_talk.specs.Wired.{wired}
 use Rattle.session_talk.specs.declared.actions.Ask.TheVariants as ask
 use Rattle.session_talk.specs.declared.attempts.Attempting.{Attempting}
 use Rattle.session_talk.specs.declared.inputs.Input.{Input}
+use Rattle.session_talk.specs.declared.inputs.Input.TheVariants as input
 
 -- What is owed goes on: for further packets and answers it is what was owed before, and what the talk that then stood
 -- owes for them.
 abbrev pub OwedGoesOn : Type 0
 OwedGoesOn =
-    (next : ℕ) (t : Talk) (packets more : List Packet) (owns others : List Own) →
+    (next : ℕ) (t : SessionTalk) (packets more : List Packet) (owns others : List Input) →
     let before = owed next t packets owns in
     owed next t (packets ++ more) (owns ++ others)
     ≡ owing.after_all_sent before.sent (owed before.next before.at (before.unread ++ more) (before.unused ++ others))
@@ -36,7 +38,7 @@ OwedGoesOn =
 -- The same over bytes, however they are cut.
 abbrev pub WiredGoesOn : Type 0
 WiredGoesOn =
-    (next : ℕ) (t : Talk) (stream : Stream) (more : List ℕ) (owns others : List Own) →
+    (next : ℕ) (t : SessionTalk) (stream : Stream) (more : List ℕ) (owns others : List Input) →
     let before = wired next t stream owns in
     wired next t (with_more stream more) (owns ++ others)
     ≡ wiring.after_all_sent before.sent (wired before.next before.at (with_more before.unread more) (before.unused ++ others))
@@ -56,8 +58,8 @@ RunsAreOwed =
 pub record RunsEndAsOwed : Type 0 where
   pub ends_last : (s : Standing) (inputs : List Input) → EachAnswers s inputs →
       AllAnswer s inputs
-      ⊎ ((before : List Input) × (last : Input) × (t : Talk) × (inputs ≡ before ++ last ∷ []) × AllAnswer s before × (ending_by last ≡ Some t))
-  pub is_told : (s : Standing) (before : List Input) (last : Input) (t : Talk) → EachAnswers s (before ++ last ∷ []) → ending_by last ≡ Some t →
+      ⊎ ((before : List Input) × (last : Input) × (t : SessionTalk) × (inputs ≡ before ++ last ∷ []) × AllAnswer s before × (ending_by last ≡ Some t))
+  pub is_told : (s : Standing) (before : List Input) (last : Input) (t : SessionTalk) → EachAnswers s (before ++ last ∷ []) → ending_by last ≡ Some t →
       let o = owed s.next s.at (packets_in before) (owns_in before) in
       (spoken s (before ++ last ∷ []) ≡ o.sent ++ sent_from (id_after (wanted_by o.next o.at)) (said t))
       × ((stands_after s (before ++ last ∷ [])).at ≡ rest t)
@@ -90,19 +92,19 @@ pub record RunsAreTranscripts : Type 0 where
 -- sent because of it.
 pub record ConversationsAreRuns : Type 0 where
   pub each_goes : (id : ℕ) (moves : List Move) (reply : Reply) → Conversation id moves reply →
-      (after : Talk) × Goes (session id) moves after
-  pub each_is : (id : ℕ) (before : List Move) (user : List ℕ) (evidences : List Evidence) (flags : ℕ) (reply : Reply) (payload : List ℕ) (after : Talk) →
+      (after : SessionTalk) × Goes (session id) moves after
+  pub each_is : (id : ℕ) (before : List Move) (user : List ℕ) (evidences : List Evidence) (flags : ℕ) (reply : Reply) (payload : List ℕ) (after : SessionTalk) →
       Goes (session id) (before ++ Settled user evidences flags reply ∷ Send payload ∷ []) after →
       Conversation id (before ++ Settled user evidences flags reply ∷ Send payload ∷ []) reply
 
 -- What answers the question that a session asked, answers the session.
 abbrev pub AsksAreAnswered : Type 0
 AsksAreAnswered =
-    (next : ℕ) (t : Talk) (given : Input) → IsBegun t → Answers (asked next t) given → IsTrue (is_answer t given) × IsAsked t given
+    (next : ℕ) (t : SessionTalk) (given : Input) → IsBegun t → Answers (asked next t) given → IsTrue (is_answer t given) × IsAsked t given
 
 -- What is given back as it was asked about, is what the session asked about.
 abbrev pub WhatFitsIsAsked : Type 0
-WhatFitsIsAsked = (next : ℕ) (t : Talk) (given : Input) → IsFitting (asked next t) given → IsAsked t given
+WhatFitsIsAsked = (next : ℕ) (t : SessionTalk) (given : Input) → IsFitting (Own (asked next t)) given → IsAsked t given
 
 -- A session asks at most seven questions between two packets.
 abbrev pub SessionsAreBounded : Type 0
@@ -110,9 +112,11 @@ SessionsAreBounded = (id : ℕ) → Within 7 (session id)
 
 -- A stale answer changes nothing of what a session sends, nor of what follows: once, and twice.
 pub record StaleChangesNothing : Type 0 where
-  pub once : (next : ℕ) (a : Attempting) (look again : Look) (evidences : List Evidence) (reply : Reply) (packets : List Packet) (owns : List Own) →
-      owed next (settling false a (record { look = look; evidences = evidences })) packets (Late ∷ Saw again ∷ Did reply ∷ owns)
-      ≡ owed next (settling false a (record { look = look; evidences = evidences })) packets (Did reply ∷ owns)
-  pub twice : (next : ℕ) (a : Attempting) (look again : Look) (evidences : List Evidence) (reply : Reply) (packets : List Packet) (owns : List Own) →
-      owed next (settling false a (record { look = look; evidences = evidences })) packets (Late ∷ Saw again ∷ Late ∷ Did reply ∷ owns)
-      ≡ owed next (settling false a (record { look = look; evidences = evidences })) packets (Did reply ∷ owns)
+  pub once : (next : ℕ) (a : Attempting) (look again : Look) (evidences back : List Evidence) (checked : CheckedOf) (reply : Reply) (packets : List Packet) (owns : List Input) →
+      owed next (settling false a (record { look = look; evidences = evidences })) packets
+      (input.Stale back ∷ input.Looked again ∷ input.Checked checked ∷ input.Settled reply ∷ owns)
+      ≡ owed next (settling false a (record { look = look; evidences = evidences })) packets (input.Settled reply ∷ owns)
+  pub twice : (next : ℕ) (a : Attempting) (look again : Look) (evidences back later : List Evidence) (checked : CheckedOf) (reply : Reply) (packets : List Packet) (owns : List Input) →
+      owed next (settling false a (record { look = look; evidences = evidences })) packets
+      (input.Stale back ∷ input.Looked again ∷ input.Checked checked ∷ input.Stale later ∷ input.Settled reply ∷ owns)
+      ≡ owed next (settling false a (record { look = look; evidences = evidences })) packets (input.Settled reply ∷ owns)

@@ -5,6 +5,8 @@ use Rattle.std.specs.Str.{bytes_eq}
 use Rattle.lg_base.specs.declared.errors.Code.{Code}
 use Rattle.lg_base.specs.declared.errors.Code.TheVariants as code
 use Rattle.lg_base.specs.Errors.{number_of}
+use Rattle.packet_frame.specs.declared.packets.FrameFault.{FrameFault}
+use Rattle.packet_frame.specs.declared.packets.FrameFault.TheVariants.{TooLarge, OutOfOrder, Memory as NoMemory}
 use Rattle.factor_chain.specs.CheckedOf.{CheckedOf}
 use Rattle.factor_chain.specs.Checking.{known_fits_of}
 use Rattle.factor_chain.specs.declared.credentials.InForce.{InForce}
@@ -22,32 +24,51 @@ use Rattle.auth_packets.specs.Handshake.{response}
 use Rattle.auth_packets.specs.declared.commands.Command.{Command}
 use Rattle.auth_packets.specs.declared.commands.Command.TheVariants.{Quit, Query, Ping, Reset, ChangeUser as Change, Other, Nothing}
 use Rattle.auth_packets.specs.declared.handshake.Response.{Response}
+use Rattle.interaction.specs.Talk.{Reading, Got, Faulty, PeerClosed, LinkFailed, Says, Hears, Over}
 use Rattle.session_talk.specs.declared.attempts.Attempting.{Attempting}
 use Rattle.session_talk.specs.declared.attempts.Claim.{Claim}
 use Rattle.session_talk.specs.declared.ends.SessionEnd.{SessionEnd}
 use Rattle.session_talk.specs.declared.ends.SessionEnd.TheVariants as end
-use Rattle.session_talk.specs.Talk.{Talk, Says, Hears, Draws, Looks, Checks, Settles, SettlesLocked, Over}
+use Rattle.session_talk.specs.Talk.{SessionTalk, checks, draws, looks, renews, settles, settles_locked, starts}
 use Rattle.session_talk.specs.Texts.{days_of, error_payload, fast_payload, full_payload, greeting_payload, method_name, ok_payload, switch_payload}
 
 -- ## Ends
 
 -- an error is sent, and the session ends
-abbrev pub closing : Code → SessionEnd → Talk
+abbrev pub closing : Code → SessionEnd → SessionTalk
 closing error how = Says (error_payload error) (Over how)
 
 -- the peer broke the protocol at a place
-abbrev pub broken : Code → ℕ → Talk
+abbrev pub broken : Code → ℕ → SessionTalk
 broken error at = closing error (end.Bad (number_of error) at)
+
+-- a fault of framing is told, and ends the session
+abbrev pub faulted : FrameFault → SessionTalk
+faulted (TooLarge at) = broken code.TooLarge at
+faulted (OutOfOrder at want got) = broken code.OutOfOrder at
+faulted NoMemory = Over end.Memory
+
+-- ## Reading
+
+-- how a session that waits for a payload goes on with what is read
+unfoldable pub heard_by : ((payload : List ℕ) → SessionTalk) → Reading → SessionTalk
+heard_by k (Got payload) = k payload
+heard_by k (Faulty fault) = faulted fault
+heard_by k (PeerClosed cut) = Over (end.PeerClosed cut)
+heard_by k LinkFailed = Over end.LinkFault
+
+abbrev pub hears : (anew : Bool) → ((payload : List ℕ) → SessionTalk) → SessionTalk
+hears anew k = Hears anew (heard_by k)
 
 -- ## Commands
 
 -- a session that says that all went well, or an error, and goes on
-abbrev pub done : Talk → Talk
+abbrev pub done : SessionTalk → SessionTalk
 done next = Says ok_payload next
 
 -- a command and what follows it: COM_QUIT ends the session, COM_PING and COM_RESET_CONNECTION change nothing, and
 -- no other command is known
-abbrev pub commanded : Result Command ℕ → Talk → Talk
+abbrev pub commanded : Result Command ℕ → SessionTalk → SessionTalk
 commanded (Ok Quit) next = Over end.Quit
 commanded (Ok Ping) next = done next
 commanded (Ok Reset) next = done next
@@ -58,12 +79,12 @@ commanded (Ok Nothing) next = Says (error_payload code.UnknownCommand) next
 commanded (Err at) next = Says (error_payload code.UnknownCommand) next
 
 -- a payload that is read as a command: so many are still done, and at the one after them the session ends
-unfoldable pub next_command : (left : ℕ) → List ℕ → Talk
+unfoldable pub next_command : (left : ℕ) → List ℕ → SessionTalk
 next_command zero payload = Over end.SessionLong
-next_command (suc left) payload = commanded (command.read (start payload)) (Hears true (next_command left))
+next_command (suc left) payload = commanded (command.read (start payload)) (hears true (next_command left))
 
-abbrev pub commands : (left : ℕ) → Talk
-commands left = Hears true (next_command left)
+abbrev pub commands : (left : ℕ) → SessionTalk
+commands left = hears true (next_command left)
 
 -- of a session's commands the 1,048,576th isn't done
 abbrev pub all_commands : ℕ
@@ -80,42 +101,42 @@ refusal_of user (Denied using_password) = Some (code.Denied user using_password)
 refusal_of user Locked = Some (code.Locked user)
 refusal_of user MustChange = Some code.MustChange
 
-abbrev pub answered : Option Code → Talk
+abbrev pub answered : Option Code → SessionTalk
 answered None = done (commands all_commands)
 answered (Some error) = closing error (end.Refused (number_of error))
 
 -- a session opens, or the refusal is told and it ends
-abbrev pub outcome : List ℕ → Reply → Talk
+abbrev pub outcome : List ℕ → Reply → SessionTalk
 outcome user reply = answered (refusal_of user reply)
 
 -- ## Settling
 
 -- after a second stale answer the evidence is checked in the same step
-abbrev pub locking : Attempting → List Evidence → Talk
-locking a evidences = SettlesLocked a.user evidences a.flags (outcome a.user)
+abbrev pub locking : Attempting → List Evidence → SessionTalk
+locking a evidences = settles_locked a.user evidences a.flags (outcome a.user)
 
 -- evidence that was checked is settled; a stale answer goes on otherwise
-abbrev pub settling_or : Talk → Attempting → CheckedOf → Talk
-settling_or stale a checked = Settles checked a.flags stale (outcome a.user)
+abbrev pub settling_or : SessionTalk → Attempting → CheckedOf → SessionTalk
+settling_or stale a checked = settles checked a.flags stale (outcome a.user)
 
-abbrev pub checking_or : Talk → Attempting → Look → List Evidence → Talk
+abbrev pub checking_or : SessionTalk → Attempting → Look → List Evidence → SessionTalk
 checking_or stale a look evidences =
-    Checks look evidences (settling_or stale a (record { look = look; evidences = evidences }))
+    checks look evidences (settling_or stale a (record { look = look; evidences = evidences }))
 
 -- after a first stale answer the account is looked at again, and nothing is asked of the client
-abbrev pub renewing : Attempting → List Evidence → Talk
-renewing a evidences = Looks true (Login a.user) (λ look. checking_or (locking a evidences) a look evidences)
+abbrev pub renewing : Attempting → List Evidence → SessionTalk
+renewing a evidences = renews (Login a.user) (λ look. checking_or (locking a evidences) a look evidences)
 
 -- what follows a stale answer, the first one or the second
-abbrev pub after_stale : (again : Bool) → Attempting → List Evidence → Talk
+abbrev pub after_stale : (again : Bool) → Attempting → List Evidence → SessionTalk
 after_stale false a evidences = renewing a evidences
 after_stale true a evidences = locking a evidences
 
 -- evidence on a look is checked, and then settled
-abbrev pub checking : (again : Bool) → Attempting → Look → List Evidence → Talk
+abbrev pub checking : (again : Bool) → Attempting → Look → List Evidence → SessionTalk
 checking again a look evidences = checking_or (after_stale again a evidences) a look evidences
 
-abbrev pub settling : (again : Bool) → Attempting → CheckedOf → Talk
+abbrev pub settling : (again : Bool) → Attempting → CheckedOf → SessionTalk
 settling again a checked = settling_or (after_stale again a checked.evidences) a checked
 
 -- ## The first factor
@@ -148,49 +169,49 @@ clear_evidence [] = evidence.Empty
 clear_evidence (b ∷ bytes) = evidence.Full (b ∷ bytes)
 
 -- one piece of evidence on the first look
-abbrev pub proved : Attempting → Look → Evidence → Talk
+abbrev pub proved : Attempting → Look → Evidence → SessionTalk
 proved a look given = checking false a look (given ∷ [])
 
 -- the password in the clear
-abbrev pub clearing : Attempting → Look → Talk
-clearing a look = Hears false (λ text. proved a look (clear_evidence (without_zero text)))
+abbrev pub clearing : Attempting → Look → SessionTalk
+clearing a look = hears false (λ text. proved a look (clear_evidence (without_zero text)))
 
 -- an answer of caching_sha2_password: it fits a digest that the look shows, or the password is asked for
-abbrev pub caching : Attempting → Look → (nonce answer : List ℕ) → (known : Bool) → Talk
+abbrev pub caching : Attempting → Look → (nonce answer : List ℕ) → (known : Bool) → SessionTalk
 caching a look nonce answer true = Says fast_payload (proved a look (evidence.Fast nonce answer))
 caching a look nonce answer false = Says full_payload (clearing a look)
 
-abbrev pub proving : Attempting → Look → (nonce answer : List ℕ) → Method → Talk
+abbrev pub proving : Attempting → Look → (nonce answer : List ℕ) → Method → SessionTalk
 proving a look nonce answer Native = proved a look (evidence.Native nonce answer)
 proving a look nonce answer CachingSha2 = caching a look nonce answer (known_fits_of look.in_force nonce answer)
 
 -- the answer to a nonce
-abbrev pub answering : Attempting → Look → (nonce answer : List ℕ) → (blank : Bool) → Talk
+abbrev pub answering : Attempting → Look → (nonce answer : List ℕ) → (blank : Bool) → SessionTalk
 answering a look nonce answer true = proved a look evidence.Empty
 answering a look nonce answer false = proving a look nonce answer (method_of look)
 
-abbrev pub answer : Attempting → Look → (nonce answer : List ℕ) → Talk
+abbrev pub answer : Attempting → Look → (nonce answer : List ℕ) → SessionTalk
 answer a look nonce bytes = answering a look nonce bytes (is_blank bytes)
 
 -- a client that named another method is told to switch, and answers to a fresh nonce
-abbrev pub switched : Attempting → Look → (nonce : List ℕ) → Talk
-switched a look nonce = Hears false (λ bytes. answer a look nonce bytes)
+abbrev pub switched : Attempting → Look → (nonce : List ℕ) → SessionTalk
+switched a look nonce = hears false (λ bytes. answer a look nonce bytes)
 
-abbrev pub switching : Attempting → Look → Talk
-switching a look = Draws false (λ nonce. Says (switch_payload (method_of look) nonce) (switched a look nonce))
+abbrev pub switching : Attempting → Look → SessionTalk
+switching a look = draws (λ nonce. Says (switch_payload (method_of look) nonce) (switched a look nonce))
 
 -- the client named the method of the account that the look shows, or another
 abbrev pub is_named : Claim → Look → Bool
 is_named claim look = bytes_eq claim.plugin (method_name (method_of look))
 
-abbrev pub claimed : Attempting → Claim → Look → (named : Bool) → Talk
+abbrev pub claimed : Attempting → Claim → Look → (named : Bool) → SessionTalk
 claimed a claim look true = answer a look claim.nonce claim.auth
 claimed a claim look false = switching a look
 
 -- ## The session
 
-abbrev pub looking : Attempting → Claim → Talk
-looking a claim = Looks false (Login a.user) (λ look. claimed a claim look (is_named claim look))
+abbrev pub looking : Attempting → Claim → SessionTalk
+looking a claim = looks (Login a.user) (λ look. claimed a claim look (is_named claim look))
 
 abbrev pub attempt_of : Response → Attempting
 attempt_of r = record { user = r.user; flags = r.flags }
@@ -199,16 +220,16 @@ abbrev pub claim_of : (nonce : List ℕ) → Response → Claim
 claim_of nonce r = record { nonce = nonce; plugin = r.plugin; auth = r.auth }
 
 -- the client's response to the greeting
-abbrev pub responded : (nonce : List ℕ) → Result Response ℕ → Talk
+abbrev pub responded : (nonce : List ℕ) → Result Response ℕ → SessionTalk
 responded nonce (Ok r) = looking (attempt_of r) (claim_of nonce r)
 responded nonce (Err at) = broken code.BadHandshake at
 
-abbrev pub greeted : (nonce : List ℕ) → Talk
-greeted nonce = Hears false (λ payload. responded nonce (response.read (start payload)))
+abbrev pub greeted : (nonce : List ℕ) → SessionTalk
+greeted nonce = hears false (λ payload. responded nonce (response.read (start payload)))
 
-abbrev pub greeting : (id : ℕ) → (nonce : List ℕ) → Talk
+abbrev pub greeting : (id : ℕ) → (nonce : List ℕ) → SessionTalk
 greeting id nonce = Says (greeting_payload id nonce) (greeted nonce)
 
 -- a whole session
-abbrev pub session : (id : ℕ) → Talk
-session id = Draws true (greeting id)
+abbrev pub session : (id : ℕ) → SessionTalk
+session id = starts (greeting id)

@@ -1,18 +1,19 @@
 -- What a session says over a list of inputs, turn by turn.
 use Rattle.std.specs.Prelude.{ℕ, List, [], ◌∷◌, ◌++◌, IsTrue, Option, Some, None}
 use Rattle.packet_frame.specs.declared.packets.Packet.{Packet}
+use Rattle.packet_stream.specs.Sent.{Sent, id_behind_all, sent_from}
+use Rattle.interaction.specs.Talk.{Over}
 use Rattle.session_talk.specs.declared.ends.SessionEnd.TheVariants as end
 use Rattle.session_talk.specs.declared.inputs.Input.{Input}
 use Rattle.session_talk.specs.declared.inputs.Input.TheVariants as input
-use Rattle.session_talk.specs.Owed.{Own, Drew, Saw, Late, Did}
-use Rattle.packet_stream.specs.Sent.{Sent, id_behind_all, sent_from}
-use Rattle.session_talk.specs.Talk.{Talk, Over}
-use Rattle.session_talk.specs.Turns.{IsAsked, faulted, first_id, heard, is_answer, rest, said}
+use Rattle.session_talk.specs.Logins.{faulted}
+use Rattle.session_talk.specs.Talk.{SessionTalk}
+use Rattle.session_talk.specs.Turns.{IsAsked, first_id, heard, is_answer, rest, said}
 
 -- a talk at its question, and the id of the next packet
 pub record Standing : Type 0 where
   pub next : ℕ
-  pub at : Talk
+  pub at : SessionTalk
 
 -- the payloads of one turn
 abbrev pub sent_on : Standing → Input → List Sent
@@ -42,7 +43,7 @@ IsOpen input.LinkFailed = ⊥
 IsOpen _ = Unit {0}
 
 -- the session hasn't ended
-abbrev pub IsLive : Talk → Type 0
+abbrev pub IsLive : SessionTalk → Type 0
 IsLive (Over how) = ⊥
 IsLive t = Unit {0}
 
@@ -60,7 +61,7 @@ EachAnswers s (given ∷ inputs) =
 
 -- how a session goes on where reading ended: a fault of framing is told, and nothing is said at the peer's end or where
 -- the link failed
-abbrev pub ending_by : Input → Option Talk
+abbrev pub ending_by : Input → Option SessionTalk
 ending_by (input.Frame fault) = Some (faulted fault)
 ending_by (input.End cut) = Some (Over (end.PeerClosed cut))
 ending_by input.LinkFailed = Some (Over end.LinkFault)
@@ -72,12 +73,11 @@ packets_in [] = []
 packets_in (input.Packet packet ∷ inputs) = packet ∷ packets_in inputs
 packets_in (_ ∷ inputs) = packets_in inputs
 
--- and what the server's side was answered. What a check finds is no answer of its own.
-abbrev pub owns_in : List Input → List Own
+-- and the answers of the server's side: those that don't come of reading
+abbrev pub owns_in : List Input → List Input
 owns_in [] = []
-owns_in (input.Start nonce ∷ inputs) = Drew nonce ∷ owns_in inputs
-owns_in (input.Drawn nonce ∷ inputs) = Drew nonce ∷ owns_in inputs
-owns_in (input.Looked look ∷ inputs) = Saw look ∷ owns_in inputs
-owns_in (input.Stale evidences ∷ inputs) = Late ∷ owns_in inputs
-owns_in (input.Settled reply ∷ inputs) = Did reply ∷ owns_in inputs
-owns_in (_ ∷ inputs) = owns_in inputs
+owns_in (input.Packet packet ∷ inputs) = owns_in inputs
+owns_in (input.Frame fault ∷ inputs) = owns_in inputs
+owns_in (input.End cut ∷ inputs) = owns_in inputs
+owns_in (input.LinkFailed ∷ inputs) = owns_in inputs
+owns_in (own ∷ inputs) = own ∷ owns_in inputs

@@ -1,21 +1,22 @@
 -- A session whole: its number, the bytes that it reads, the entries that it adds to the history, the bytes that it
 -- sends, and its end.
-use Rattle.std.specs.Prelude.{◌≡◌, ℕ, ◌==◌, not, List, [], ◌∷◌, length, Option, Some, None}
+use Rattle.std.specs.Prelude.{◌≡◌, IsTrue, ℕ, ◌==◌, not, if◌then◌else◌, List, [], ◌∷◌, ◌++◌, length, Option, Some, None}
 use Rattle.packet_frame.specs.Front.{Front, Whole, Part, Fault}
 use Rattle.packet_frame.specs.Packets.{id_after}
 use Rattle.packet_frame.specs.declared.packets.FrameFault.{FrameFault}
 use Rattle.packet_frame.specs.declared.packets.Packet.{Packet}
+use Rattle.packet_stream.specs.Sent.{Sent, id_behind}
+use Rattle.packet_stream.specs.Streams.{Stream, behind_of, front_of}
 use Rattle.account_history.specs.declared.entries.Entry.{Entry}
-use Rattle.account_history.specs.declared.entries.Entry.TheVariants.{Observed, Attempted}
+use Rattle.interaction.specs.Talk.{Got, Says, Hears, Asks, Over}
 use Rattle.session_talk.specs.declared.ends.SessionEnd.{SessionEnd}
 use Rattle.session_talk.specs.declared.ends.SessionEnd.TheVariants as end
-use Rattle.session_talk.specs.Logins.{session}
-use Rattle.session_talk.specs.Owed.{Own, Drew, Saw, Late, Did, Owed, owed}
-use Rattle.packet_stream.specs.Sent.{Sent, id_behind}
-use Rattle.session_talk.specs.Talk.{Talk, Says, Hears, Draws, Looks, Checks, Settles, SettlesLocked, Over}
-use Rattle.session_talk.specs.Turns.{faulted, wanted}
+use Rattle.session_talk.specs.declared.inputs.Input.{Input}
+use Rattle.session_talk.specs.Logins.{faulted, session}
+use Rattle.session_talk.specs.Owed.{Owed, owed}
+use Rattle.session_talk.specs.Talk.{SessionTalk}
+use Rattle.session_talk.specs.Turns.{Adds, IsFitting, takes, wanted}
 use Rattle.session_talk.specs.Wired.{Wired, after_all_sent, said_from, stops, wired}
-use Rattle.packet_stream.specs.Streams.{Stream, behind_of, front_of}
 
 -- ## The packets among the bytes
 
@@ -34,16 +35,12 @@ by_packet goes_on stream (Part missing) = record { packets = []; left = stream }
 by_packet goes_on stream (Fault fault) = record { packets = []; left = stream }
 
 -- the packets that a session reads, each with the id that it then wants
-unfoldable pub read_of : (next : ℕ) → Talk → Stream → List Own → Reading
+unfoldable pub read_of : (next : ℕ) → SessionTalk → Stream → List Input → Reading
 read_of next (Says payload t) stream owns = read_of (id_behind next payload) t stream owns
 read_of next (Hears anew k) stream owns =
-    by_packet (λ packet behind. after_packet packet (read_of (id_after packet.last) (k packet.payload) behind owns)) stream (front_of (wanted anew next) stream)
-read_of next (Draws first k) stream (Drew nonce ∷ owns) = read_of next (k nonce) stream owns
-read_of next (Looks again who k) stream (Saw look ∷ owns) = read_of next (k look) stream owns
-read_of next (Checks look evidences t) stream owns = read_of next t stream owns
-read_of next (Settles checked flags stale k) stream (Late ∷ owns) = read_of next stale stream owns
-read_of next (Settles checked flags stale k) stream (Did reply ∷ owns) = read_of next (k reply) stream owns
-read_of next (SettlesLocked user evidences flags k) stream (Did reply ∷ owns) = read_of next (k reply) stream owns
+    by_packet (λ packet behind. after_packet packet (read_of (id_after packet.last) (k (Got packet.payload)) behind owns)) stream (front_of (wanted anew next) stream)
+read_of next (Asks q k) stream (given ∷ owns) =
+    if takes q given then read_of next (k given) stream owns else record { packets = []; left = stream }
 read_of next t stream owns = record { packets = []; left = stream }
 
 -- the fault of framing that stands where a packet is waited for
@@ -52,11 +49,11 @@ fault_in (Whole first last payload behind) = None
 fault_in (Part missing) = None
 fault_in (Fault fault) = Some fault
 
-abbrev pub fault_at : (next : ℕ) → Talk → Stream → Option FrameFault
+abbrev pub fault_at : (next : ℕ) → SessionTalk → Stream → Option FrameFault
 fault_at next (Hears anew k) stream = fault_in (front_of (wanted anew next) stream)
 fault_at next t stream = None
 
-abbrev pub wanted_at : (next : ℕ) → Talk → ℕ
+abbrev pub wanted_at : (next : ℕ) → SessionTalk → ℕ
 wanted_at next (Hears anew k) = wanted anew next
 wanted_at next t = next
 
@@ -69,27 +66,22 @@ told_fault (Some fault) o stream = after_all_sent o.sent (said_from (id_after (w
 -- where a packet is waited for.
 abbrev pub WiredIsOwed : Type 0
 WiredIsOwed =
-    (next : ℕ) (t : Talk) (stream : Stream) (owns : List Own) →
+    (next : ℕ) (t : SessionTalk) (stream : Stream) (owns : List Input) →
     let read = read_of next t stream owns in
     let o = owed next t read.packets owns in
     wired next t stream owns ≡ told_fault (fault_at o.next o.at read.left) o read.left
 
 -- ## The entries
 
--- what a session's own side was answered makes these entries of the history, by the readings of the clock in order
-unfoldable pub Enters : Talk → List Packet → List Own → List Entry → Type 0
+-- what a session's own side was answered is what was asked for, and makes these entries of the history, by the readings
+-- of the clock in order
+unfoldable pub Enters : SessionTalk → List Packet → List Input → List Entry → Type 0
 Enters (Says payload t) packets owns entries = Enters t packets owns entries
-Enters (Hears anew k) (packet ∷ packets) owns entries = Enters (k packet.payload) packets owns entries
-Enters (Draws first k) packets (Drew nonce ∷ owns) entries = Enters (k nonce) packets owns entries
-Enters (Looks again who k) packets (Saw look ∷ owns) (entry ∷ entries) = (entry ≡ Observed who look) × Enters (k look) packets owns entries
-Enters (Checks look evidences t) packets owns entries = Enters t packets owns entries
-Enters (Settles checked flags stale k) packets (Late ∷ owns) entries = Enters stale packets owns entries
-Enters (Settles checked flags stale k) packets (Did reply ∷ owns) (entry ∷ entries) =
-    (reading : ℕ) × (entry ≡ Attempted (record { user = checked.look.user; evidences = checked.evidences; flags = flags; reading = reading; reply = reply }))
-    × Enters (k reply) packets owns entries
-Enters (SettlesLocked user evidences flags k) packets (Did reply ∷ owns) (entry ∷ entries) =
-    (reading : ℕ) × (entry ≡ Attempted (record { user = user; evidences = evidences; flags = flags; reading = reading; reply = reply }))
-    × Enters (k reply) packets owns entries
+Enters (Hears anew k) (packet ∷ packets) owns entries = Enters (k (Got packet.payload)) packets owns entries
+Enters (Asks q k) packets (given ∷ owns) entries =
+    (added : List Entry) × (more : List Entry)
+    × IsTrue (takes q given) × IsFitting q given × Adds q given added × (entries ≡ added ++ more)
+    × Enters (k given) packets owns more
 Enters t packets owns entries = (owns ≡ []) × (entries ≡ [])
 
 -- ## The end
@@ -101,7 +93,7 @@ pub data Peer : Type 0 where
   Failed : Peer
 
 -- the end of a session that waits for a packet, and whose peer has closed the connection or whose link has failed
-abbrev pub ended : Peer → Talk → Stream → Option SessionEnd
+abbrev pub ended : Peer → SessionTalk → Stream → Option SessionEnd
 ended peer (Over how) stream = Some how
 ended Closed (Hears anew k) stream = Some (end.PeerClosed (not (length stream.bytes == 0)))
 ended Failed (Hears anew k) stream = Some end.LinkFault
@@ -112,7 +104,7 @@ ended peer t stream = None
 -- A session of this number reads these bytes from its peer, adds these entries, sends these payloads and ends so, if it
 -- has ended.
 pub record Transcript (id : ℕ) (peer : Peer) (bytes : List ℕ) (entries : List Entry) (sent : List Sent) (how : Option SessionEnd) : Type 0 where
-  pub owns : List Own
+  pub owns : List Input
   pub entered : Enters (session id) (read_of 0 (session id) (record { place = 0; bytes = bytes }) owns).packets owns entries
   pub sends : sent ≡ (wired 0 (session id) (record { place = 0; bytes = bytes }) owns).sent
   pub ends : how ≡ ended peer (wired 0 (session id) (record { place = 0; bytes = bytes }) owns).at (wired 0 (session id) (record { place = 0; bytes = bytes }) owns).unread

@@ -1,11 +1,12 @@
 -- One turn of a session: what is said before the next question, the question, and what an answer leads to.
 use Rattle.std.specs.Prelude.{◌≡◌, IsTrue, ℕ, nat_le, Bool, true, false, if◌then◌else◌, List, [], ◌∷◌, length, Option, Some, None}
 use Rattle.std.specs.List.{list_all}
-use Rattle.lg_base.specs.declared.errors.Code.TheVariants as code
 use Rattle.packet_frame.specs.Packets.{id_after}
-use Rattle.packet_frame.specs.declared.packets.FrameFault.{FrameFault}
-use Rattle.packet_frame.specs.declared.packets.FrameFault.TheVariants.{TooLarge, OutOfOrder, Memory as NoMemory}
+use Rattle.packet_stream.specs.Sent.{id_behind_all}
 use Rattle.factor_chain.specs.declared.credentials.InForce.{InForce}
+use Rattle.account_history.specs.declared.entries.Entry.{Entry}
+use Rattle.account_history.specs.declared.entries.Entry.TheVariants.{Observed, Attempted}
+use Rattle.interaction.specs.Talk.{Got, Says, Hears, Asks, Over}
 use Rattle.session_talk.specs.declared.actions.Action.{Action}
 use Rattle.session_talk.specs.declared.actions.Ask.{Ask}
 use Rattle.session_talk.specs.declared.actions.Ask.TheVariants as ask
@@ -13,9 +14,8 @@ use Rattle.session_talk.specs.declared.ends.SessionEnd.{SessionEnd}
 use Rattle.session_talk.specs.declared.ends.SessionEnd.TheVariants as end
 use Rattle.session_talk.specs.declared.inputs.Input.{Input}
 use Rattle.session_talk.specs.declared.inputs.Input.TheVariants as input
-use Rattle.session_talk.specs.Logins.{broken}
-use Rattle.packet_stream.specs.Sent.{id_behind_all}
-use Rattle.session_talk.specs.Talk.{Talk, Says, Hears, Draws, Looks, Checks, Settles, SettlesLocked, Over}
+use Rattle.session_talk.specs.Logins.{faulted}
+use Rattle.session_talk.specs.Talk.{Begins, Own, Question, SessionTalk}
 
 -- ## Sequence ids
 
@@ -27,31 +27,31 @@ wanted false next = next
 -- ## Saying
 
 -- the payloads that are sent before the next question
-unfoldable pub said : Talk → List (List ℕ)
+unfoldable pub said : SessionTalk → List (List ℕ)
 said (Says payload t) = payload ∷ said t
 said _ = []
 
 -- the talk at its next question
-unfoldable pub rest : Talk → Talk
+unfoldable pub rest : SessionTalk → SessionTalk
 rest (Says payload t) = rest t
 rest t = t
 
 -- ## Asking
 
+-- the ask by which a question is put. A nonce is drawn for a new session.
+abbrev pub ask_of : Question → Ask
+ask_of Begins = ask.Draw
+ask_of (Own asked_for) = asked_for
+
 -- what is asked for, where it isn't a packet
-unfoldable pub question : Talk → Option Ask
+unfoldable pub question : SessionTalk → Option Ask
 question (Says payload t) = question t
 question (Hears anew k) = None
-question (Draws first k) = Some ask.Draw
-question (Looks false who k) = Some (ask.Observe who)
-question (Looks true who k) = Some (ask.Renew who)
-question (Checks look evidences t) = Some (ask.Check look evidences)
-question (Settles checked flags stale k) = Some (ask.Settle checked flags)
-question (SettlesLocked user evidences flags k) = Some (ask.SettleLocked user evidences flags)
+question (Asks q k) = Some (ask_of q)
 question (Over how) = Some (ask.Ended how)
 
 -- the id that a talk wants of the packet that it waits for
-unfoldable pub wanted_by : (next : ℕ) → Talk → ℕ
+unfoldable pub wanted_by : (next : ℕ) → SessionTalk → ℕ
 wanted_by next (Hears anew k) = wanted anew next
 wanted_by next t = next
 
@@ -60,39 +60,27 @@ or_read want None = ask.Read want
 or_read want (Some asked_for) = asked_for
 
 -- what a talk at its question asks for
-abbrev pub asked : (next : ℕ) → Talk → Ask
+abbrev pub asked : (next : ℕ) → SessionTalk → Ask
 asked next t = or_read (wanted_by next t) (question t)
 
 -- ## Hearing
 
--- a fault of framing is told, and ends the session
-abbrev pub faulted : FrameFault → Talk
-faulted (TooLarge at) = broken code.TooLarge at
-faulted (OutOfOrder at want got) = broken code.OutOfOrder at
-faulted NoMemory = Over end.Memory
-
--- how a talk goes on with an answer. An input that answers nothing leaves it as it is.
-unfoldable pub heard : Talk → Input → Talk
-heard (Hears anew k) (input.Packet packet) = k packet.payload
+-- how a talk goes on with an answer
+unfoldable pub heard : SessionTalk → Input → SessionTalk
+heard (Hears anew k) (input.Packet packet) = k (Got packet.payload)
 heard (Hears anew k) (input.Frame fault) = faulted fault
 heard (Hears anew k) (input.End cut) = Over (end.PeerClosed cut)
 heard (Hears anew k) input.LinkFailed = Over end.LinkFault
-heard (Draws true k) (input.Start nonce) = k nonce
-heard (Draws false k) (input.Drawn nonce) = k nonce
-heard (Looks again who k) (input.Looked look) = k look
-heard (Checks look evidences t) (input.Checked checked) = t
-heard (Settles checked flags stale k) (input.Stale evidences) = stale
-heard (Settles checked flags stale k) (input.Settled reply) = k reply
-heard (SettlesLocked user evidences flags k) (input.Settled reply) = k reply
+heard (Asks q k) given = k given
 heard t _ = t
 
 -- the id of the first packet that is sent after an answer
-abbrev pub first_id : (next : ℕ) → Talk → Input → ℕ
+abbrev pub first_id : (next : ℕ) → SessionTalk → Input → ℕ
 first_id next t (input.Packet packet) = id_after packet.last
 first_id next t (input.Frame fault) = id_after (wanted_by next t)
 first_id next t _ = next
 
--- ## What answers
+-- ## Tests of what is given
 
 -- 20 bytes of the alphabet of salts, `./0-9A-Za-z`
 abbrev pub is_salt_byte : ℕ → Bool
@@ -146,51 +134,84 @@ abbrev pub is_failure : SessionEnd → Bool
 is_failure end.Memory = true
 is_failure _ = false
 
--- the input is of the kind that the talk waits for, as far as it can be tested
-unfoldable pub is_answer : Talk → Input → Bool
-is_answer (Says payload t) given = false
-is_answer (Hears anew k) given = is_read given
-is_answer (Draws true k) given = is_start given
-is_answer (Draws false k) given = is_draw given
-is_answer (Looks again who k) given = is_look given
-is_answer (Checks look evidences t) given = is_checked given
-is_answer (Settles checked flags stale k) given = is_settled_or_stale given
-is_answer (SettlesLocked user evidences flags k) given = is_settled given
-is_answer (Over how) given = is_failure how
+-- ## What each question is
+--
+-- A packet and the end of a session are asks that a session never puts as a question.
+
+-- an input is of a kind that a question is answered by
+abbrev pub takes : Question → Input → Bool
+takes Begins (input.Start nonce) = true
+takes (Own ask.Draw) (input.Drawn nonce) = true
+takes (Own (ask.Observe who)) (input.Looked look) = true
+takes (Own (ask.Renew who)) (input.Looked look) = true
+takes (Own (ask.Check look evidences)) (input.Checked checked) = true
+takes (Own (ask.Settle checked flags)) (input.Stale evidences) = true
+takes (Own (ask.Settle checked flags)) (input.Settled reply) = true
+takes (Own (ask.SettleLocked user evidences flags)) (input.Settled reply) = true
+takes _ _ = false
+
+-- an input answers a question, as far as it can be tested
+abbrev pub answers : Question → Input → Bool
+answers Begins given = is_start given
+answers (Own ask.Draw) given = is_draw given
+answers (Own (ask.Observe who)) given = is_look given
+answers (Own (ask.Renew who)) given = is_look given
+answers (Own (ask.Check look evidences)) given = is_checked given
+answers (Own (ask.Settle checked flags)) given = is_settled_or_stale given
+answers (Own (ask.SettleLocked user evidences flags)) given = is_settled given
+answers _ given = false
 
 -- what is given back is what was asked about
-unfoldable pub IsAsked : Talk → Input → Type 0
-IsAsked (Checks look evidences t) (input.Checked checked) = checked ≡ record { look = look; evidences = evidences }
-IsAsked (Settles checked flags stale k) (input.Stale evidences) = evidences ≡ checked.evidences
+abbrev pub IsFitting : Question → Input → Type 0
+IsFitting (Own (ask.Check look evidences)) (input.Checked checked) = checked ≡ record { look = look; evidences = evidences }
+IsFitting (Own (ask.Settle checked flags)) (input.Stale evidences) = evidences ≡ checked.evidences
+IsFitting _ _ = Unit {0}
+
+-- The entries of an answer: a look has one and a reply has one, by some reading of the clock. A nonce, the outcome of a
+-- check and a stale answer have none.
+abbrev pub Adds : Question → Input → List Entry → Type 0
+Adds (Own (ask.Observe who)) (input.Looked look) added = added ≡ Observed who look ∷ []
+Adds (Own (ask.Renew who)) (input.Looked look) added = added ≡ Observed who look ∷ []
+Adds (Own (ask.Settle checked flags)) (input.Settled reply) added =
+    (reading : ℕ) × (added ≡ Attempted (record { user = checked.look.user; evidences = checked.evidences; flags = flags; reading = reading; reply = reply }) ∷ [])
+Adds (Own (ask.SettleLocked user evidences flags)) (input.Settled reply) added =
+    (reading : ℕ) × (added ≡ Attempted (record { user = user; evidences = evidences; flags = flags; reading = reading; reply = reply }) ∷ [])
+Adds _ _ added = added ≡ []
+
+-- a session that has begun puts the question
+abbrev pub IsPut : Question → Type 0
+IsPut Begins = ⊥
+IsPut (Own (ask.Read want)) = ⊥
+IsPut (Own (ask.Ended how)) = ⊥
+IsPut _ = Unit {0}
+
+-- ## What answers a session
+
+-- the input is of the kind that the talk waits for, as far as it can be tested
+unfoldable pub is_answer : SessionTalk → Input → Bool
+is_answer (Says payload t) given = false
+is_answer (Hears anew k) given = is_read given
+is_answer (Asks q k) given = answers q given
+is_answer (Over how) given = is_failure how
+
+unfoldable pub IsAsked : SessionTalk → Input → Type 0
+IsAsked (Asks q k) given = IsFitting q given
 IsAsked t _ = Unit {0}
 
 -- an input answers what was asked for
 abbrev pub Answers : Ask → Input → Type 0
 Answers (ask.Read want) given = IsTrue (is_read given)
-Answers ask.Draw given = IsTrue (is_draw given)
-Answers (ask.Observe who) given = IsTrue (is_look given)
-Answers (ask.Renew who) given = IsTrue (is_look given)
-Answers (ask.Check look evidences) (input.Checked checked) = checked ≡ record { look = look; evidences = evidences }
-Answers (ask.Settle checked flags) (input.Stale evidences) = evidences ≡ checked.evidences
-Answers (ask.Settle checked flags) (input.Settled reply) = Unit {0}
-Answers (ask.SettleLocked user evidences flags) given = IsTrue (is_settled given)
-Answers _ _ = ⊥
-
--- what is given back is what was asked about
-abbrev pub IsFitting : Ask → Input → Type 0
-IsFitting (ask.Check look evidences) (input.Checked checked) = checked ≡ record { look = look; evidences = evidences }
-IsFitting (ask.Settle checked flags) (input.Stale evidences) = evidences ≡ checked.evidences
-IsFitting _ _ = Unit {0}
+Answers asked_for given = IsTrue (answers (Own asked_for) given) × IsFitting (Own asked_for) given
 
 -- a session that has begun has drawn its first nonce
-abbrev pub IsBegun : Talk → Type 0
-IsBegun (Draws true k) = ⊥
+abbrev pub IsBegun : SessionTalk → Type 0
 IsBegun (Says payload t) = ⊥
+IsBegun (Asks q k) = IsPut q
 IsBegun t = Unit {0}
 
 -- What a session does on an answer, where `next` is the sequence id of the next packet: it sends what the talk says,
 -- and then asks what the talk asks.
-pub record Acts (next : ℕ) (t : Talk) (given : Input) (action : Action) (next_after : ℕ) (after : Talk) : Type 0 where
+pub record Acts (next : ℕ) (t : SessionTalk) (given : Input) (action : Action) (next_after : ℕ) (after : SessionTalk) : Type 0 where
   pub first : action.first ≡ first_id next t given
   pub sends : action.send ≡ said (heard t given)
   pub next_is : next_after ≡ id_behind_all action.first action.send
