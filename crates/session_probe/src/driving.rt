@@ -2,6 +2,7 @@
 
 ghost use Rattle.session_engine.specs.Standing.{next_of, talk_of_session};
 ghost use Rattle.session_probe.specs.Fitting.{gives_back};
+ghost use Rattle.session_talk.specs.Talk.{Own};
 ghost use Rattle.session_talk.specs.Turns.{IsAsked, IsFitting, asked};
 ghost use Rattle.std.specs.Prelude.{◌≡◌, IfOk, IfSome, not};
 
@@ -12,6 +13,7 @@ use lg_base::Memory;
 use session_engine::Session;
 use session_talk::{Action, Ask, Input};
 use std::alloc::Global;
+use std::mem;
 
 /// A session, and what it did last.
 #[derive(Drop)]
@@ -21,19 +23,19 @@ pub struct Driven {
     ghost asks: { action.ask ≡ asked (next_of session) (talk_of_session session) },
 }
 
-/// What came of an answer.
+/// Where the session stands that the lines drive.
 #[derive(Drop)]
-pub enum Outcome {
-    Did(Driven),
+pub enum State {
+    /// There is no session: none has begun, or a line was no answer to what its session asked.
+    Absent,
+    At(Driven),
     /// There was no memory.
     Failed(Session),
-    /// The line is no answer to what was asked.
-    NoAnswer,
 }
 
 /// What was asked about, checked.
 fn checked(ask: Ask) -> Option<Input>
-    ensures { IfSome result (IsFitting ask) }
+    ensures { IfSome result (IsFitting (Own ask)) }
 {
     match ask {
         Ask::Check { look, evidences } => Some(Input::Checked(check(look, evidences))),
@@ -43,7 +45,7 @@ fn checked(ask: Ask) -> Option<Input>
 
 /// What was asked about, handed back.
 fn stale(ask: Ask) -> Option<Input>
-    ensures { IfSome result (IsFitting ask) }
+    ensures { IfSome result (IsFitting (Own ask)) }
 {
     match ask {
         Ask::Settle { checked, flags: _ } => Some(Input::Stale(checked.into_evidences())),
@@ -61,7 +63,7 @@ fn is_plain(input: &Input) -> bool
 /// An input of the other kinds.
 #[tactic(auto, using(crate::proofs::Fitting::plain_fits))]
 fn other(alloc: Global, ask: Ask, words: &[&str]) -> Result<Option<Input>, Memory>
-    ensures { IfOk result (λ input. IfSome input (IsFitting ask)) }
+    ensures { IfOk result (λ input. IfSome input (IsFitting (Own ask))) }
 {
     let _ = ask;
     match plain_input(alloc, words)? {
@@ -72,7 +74,7 @@ fn other(alloc: Global, ask: Ask, words: &[&str]) -> Result<Option<Input>, Memor
 
 /// The input of a line.
 fn input_of(alloc: Global, ask: Ask, words: &[&str]) -> Result<Option<Input>, Memory>
-    ensures { IfOk result (λ input. IfSome input (IsFitting ask)) }
+    ensures { IfOk result (λ input. IfSome input (IsFitting (Own ask))) }
 {
     match words {
         ["checked"] => Ok(checked(ask)),
@@ -82,31 +84,48 @@ fn input_of(alloc: Global, ask: Ask, words: &[&str]) -> Result<Option<Input>, Me
 }
 
 /// Gives a session an input that fits what it asked.
-fn give(session: Session, input: Input) -> Outcome
+fn give(session: Session, input: Input) -> State
     requires { IsAsked (talk_of_session session) input }
 {
     let mut session = session;
     if !session.answers(&input) {
-        return Outcome::NoAnswer;
+        return State::Absent;
     }
     match session.on(input) {
-        Ok(action) => Outcome::Did(Driven { session, action }),
-        Err(Memory) => Outcome::Failed(session),
+        Ok(action) => State::At(Driven { session, action }),
+        Err(Memory) => State::Failed(session),
     }
 }
 
 /// Gives a session the answer to its last ask.
 #[tactic(auto, using(crate::proofs::Fitting::fits))]
-pub fn take(alloc: Global, driven: Driven, words: &[&str]) -> Outcome {
+fn take(alloc: Global, driven: Driven, words: &[&str]) -> State {
     let Driven { session, action } = driven;
     match input_of(alloc, action.ask, words) {
         Ok(Some(input)) => give(session, input),
-        _ => Outcome::NoAnswer,
+        _ => State::Absent,
     }
 }
 
-/// A new session that has its first nonce.
+/// The session is given the answer to its last ask, unless it has failed.
+pub fn answer(alloc: Global, state: &mut State, words: &[&str]) {
+    let state_after = match mem::replace(state, State::Absent) {
+        State::At(driven) => take(alloc, driven, words),
+        other => other,
+    };
+    *state = state_after;
+}
+
+/// Gives a session an input that gives nothing back.
 #[tactic(auto, using(crate::proofs::Fitting::plain_is_asked))]
-pub fn begin(alloc: Global) -> Outcome {
-    give(Session::new(alloc, 1), Input::Start { nonce: NONCE })
+fn give_plain(session: Session, input: Input) -> State {
+    if !is_plain(&input) {
+        return State::Absent;
+    }
+    give(session, input)
+}
+
+/// A new session that has its first nonce.
+pub fn begin(alloc: Global) -> State {
+    give_plain(Session::new(alloc, 1), Input::Start { nonce: NONCE })
 }

@@ -22,35 +22,19 @@ mod given;
 mod looks;
 mod printing;
 
-use driving::{Driven, Outcome, begin, take};
+use driving::{State, answer, begin};
 use lg_base::Memory;
-use session_engine::Session;
+use printing::print_state;
+use std::alloc::Global;
 use std::io;
 
-/// The session that the lines drive.
-#[derive(Drop)]
-enum State {
-    Absent,
-    At(Driven),
-    Failed(Session),
-}
-
 /// Gives the session an answer, and prints what it does.
-fn answer(rt: &HostRuntime, driven: Driven, words: &[&str]) -> io::Result<State> {
-    match take(rt.alloc(), driven, words) {
-        Outcome::Did(driven) => {
-            printing::print_action(rt, &driven.action)?;
-            Ok(State::At(driven))
-        }
-        Outcome::Failed(session) => {
-            println!(rt; "memory")?;
-            Ok(State::Failed(session))
-        }
-        Outcome::NoAnswer => {
-            println!(rt; "no answer")?;
-            Ok(State::Absent)
-        }
+fn go_on(rt: &HostRuntime, state: &mut State, words: &[&str]) -> io::Result<()> {
+    if !matches!(state, State::At(_)) {
+        return println!(rt; "no session");
     }
+    answer(rt.alloc(), state, words);
+    print_state(rt, state)
 }
 
 fn print_inputs(rt: &HostRuntime, state: &State) -> io::Result<()> {
@@ -60,12 +44,7 @@ fn print_inputs(rt: &HostRuntime, state: &State) -> io::Result<()> {
         State::Failed(session) => answering::marks(rt.alloc(), session),
     };
     match marks {
-        Ok(marks) => {
-            for mark in marks {
-                print!(rt; "{}", if mark { 'y' } else { '-' })?;
-            }
-            println!(rt; "")
-        }
+        Ok(marks) => printing::print_marks(rt, &marks),
         Err(Memory) => println!(rt; "memory"),
     }
 }
@@ -82,58 +61,52 @@ fn print_nonces(rt: &HostRuntime, state: &State) -> io::Result<()> {
     println!(rt; "")
 }
 
-/// Gives the session so many commands: COM_PING, and an empty payload, which is none.
-fn obey(rt: &HostRuntime, state: State, count: u32) -> io::Result<State> {
-    let mut state = state;
-    let mut sent = [0u32, 0];
+/// COM_PING at every second command, and else an empty payload, which is none.
+fn command_line(number: u32) -> [&'static str; 3] {
+    if number % 2 == 0 {
+        ["packet", "0", "0e"]
+    } else {
+        ["packet", "0", ""]
+    }
+}
+
+/// Whether the session sent an error last, where there is one.
+fn has_sent_error(state: &State) -> Option<bool> {
+    match state {
+        State::At(driven) => Some(printing::is_error(&driven.action)),
+        _ => None,
+    }
+}
+
+/// Gives the session so many commands. How many of them were done, and how many weren't known?
+fn obey(alloc: Global, state: &mut State, count: u32) -> (u32, u32) {
+    let (mut done, mut unknown) = (0u32, 0u32);
     for number in 0..count {
-        let State::At(driven) = state else {
-            break;
-        };
-        let words: &[&str] = if number % 2 == 0 {
-            &["packet", "0", "0e"]
-        } else {
-            &["packet", "0", ""]
-        };
-        state = match take(rt.alloc(), driven, words) {
-            Outcome::Did(driven) => {
-                sent[usize::from(printing::is_error(&driven.action))] += 1;
-                State::At(driven)
-            }
-            _ => State::Absent,
-        };
+        answer(alloc, state, &command_line(number));
+        match has_sent_error(state) {
+            Some(true) => unknown = unknown.saturating_add(1),
+            Some(false) => done = done.saturating_add(1),
+            None => break,
+        }
     }
-    println!(rt; "ok {} errors {}", sent[0], sent[1])?;
-    Ok(state)
+    (done, unknown)
 }
 
-fn begin_anew(rt: &HostRuntime) -> io::Result<State> {
-    match begin(rt.alloc()) {
-        Outcome::Did(driven) => {
-            printing::print_action(rt, &driven.action)?;
-            Ok(State::At(driven))
-        }
-        _ => Ok(State::Absent),
-    }
+fn print_commands(rt: &HostRuntime, state: &mut State, count: u32) -> io::Result<()> {
+    let (done, unknown) = obey(rt.alloc(), state, count);
+    println!(rt; "ok {done} errors {unknown}")
 }
 
-fn follow(rt: &HostRuntime, state: State, words: &[&str]) -> io::Result<State> {
-    match (words, state) {
-        (["new"], _) => begin_anew(rt),
-        (["answers"], state) => {
-            print_inputs(rt, &state)?;
-            Ok(state)
+fn follow(rt: &HostRuntime, state: &mut State, words: &[&str]) -> io::Result<()> {
+    match words {
+        ["new"] => {
+            *state = begin(rt.alloc());
+            print_state(rt, state)
         }
-        (["nonces"], state) => {
-            print_nonces(rt, &state)?;
-            Ok(state)
-        }
-        (["commands", count], state) => obey(rt, state, count.parse::<u32>().unwrap_or(0)),
-        (words, State::At(driven)) => answer(rt, driven, words),
-        (_, state) => {
-            println!(rt; "no session")?;
-            Ok(state)
-        }
+        ["answers"] => print_inputs(rt, state),
+        ["nonces"] => print_nonces(rt, state),
+        ["commands", count] => print_commands(rt, state, count.parse::<u32>().unwrap_or(0)),
+        _ => go_on(rt, state, words),
     }
 }
 
@@ -142,7 +115,7 @@ fn main(rt: HostRuntime) -> io::Result<()> {
     for line in rt.lines(rt.alloc()) {
         let line = line?;
         let words: Vec<&str> = line.as_str().split(' ').collect(rt.alloc())?;
-        state = follow(&rt, state, words.as_slice())?;
+        follow(&rt, &mut state, words.as_slice())?;
     }
     Ok(())
 }

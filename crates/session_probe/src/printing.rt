@@ -1,5 +1,7 @@
 //! What is printed of what a session does.
 
+use crate::answering::INPUTS;
+use crate::driving::State;
 use account_history::Who;
 use factor_chain::{Evidence, Evidences};
 use session_talk::{Action, Ask, SessionEnd};
@@ -101,12 +103,29 @@ fn print_ask(rt: &HostRuntime, ask: &Ask) -> io::Result<()> {
     }
 }
 
-pub fn print_action(rt: &HostRuntime, action: &Action) -> io::Result<()> {
+fn print_action(rt: &HostRuntime, action: &Action) -> io::Result<()> {
     print!(rt; "{}", action.first)?;
     for payload in action.send.as_slice() {
         print_hex(rt, payload.as_slice())?;
     }
     print!(rt; " ")?;
     print_ask(rt, &action.ask)?;
+    println!(rt; "")
+}
+
+/// What a session did on an answer, or that there was none.
+pub fn print_state(rt: &HostRuntime, state: &State) -> io::Result<()> {
+    match state {
+        State::At(driven) => print_action(rt, &driven.action),
+        State::Failed(_) => println!(rt; "memory"),
+        State::Absent => println!(rt; "no answer"),
+    }
+}
+
+/// Whether each input answers a session: `y`, or `-`.
+pub fn print_marks(rt: &HostRuntime, marks: &[bool; INPUTS]) -> io::Result<()> {
+    for mark in marks {
+        print!(rt; "{}", if *mark { 'y' } else { '-' })?;
+    }
     println!(rt; "")
 }
