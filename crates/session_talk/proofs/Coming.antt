@@ -9,7 +9,7 @@ use Rattle.session_talk.specs.Laws.{ReadingIsDetermined}
 use Rattle.session_talk.specs.Transcript.{Closed, Failed, Open, Peer}
 use Rattle.session_talk.specs.Turns.{is_read}
 use Rattle.packet_stream.specs.Streams.{Stream, behind_of, front_of}
-use Rattle.session_talk.proofs.Running.{untrue}
+use Rattle.session_talk.proofs.Asking.{untrue}
 
 -- what comes of reading, and the bytes that are left
 record Came : Type 0 where

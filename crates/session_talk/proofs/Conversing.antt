@@ -13,16 +13,17 @@ use Rattle.wire_form.specs.Payloads.{start}
 use Rattle.auth_packets.specs.Handshake.{response}
 use Rattle.auth_packets.specs.declared.handshake.Response.{Response}
 use Rattle.auth_packets.proofs.HandshakeLaws.{response-lawful}
+use Rattle.interaction.specs.Talk.{Over}
 use Rattle.session_talk.specs.declared.attempts.Attempting.{Attempting}
 use Rattle.session_talk.specs.declared.attempts.Claim.{Claim}
 use Rattle.session_talk.specs.declared.ends.SessionEnd.TheVariants as end
 use Rattle.session_talk.specs.Conversation.{Conversation, Goes, Move, Sent, Exchange, Named, Switched, IsExchange, exchange_moves, nonce_in, answer_in, Proof, Blank, Answered, Known, Clear, IsBlank, IsProof, proof_moves, evidence_in, Settling, AtOnce, Once, Twice, settling_moves, last_payload}
-use Rattle.session_talk.specs.Logins.{all_commands, answer, answered, answering, attempt_of, caching, claim_of, claimed, commands, is_blank, is_named, method_of, proved, proving, refusal_of, responded, session}
-use Rattle.session_talk.specs.Talk.{Talk, Over}
+use Rattle.session_talk.specs.Logins.{all_commands, answer, answered, answering, attempt_of, caching, claim_of, claimed, commands, heard_by, is_blank, is_named, method_of, proved, proving, refusal_of, responded, session}
+use Rattle.session_talk.specs.Talk.{SessionTalk, on_checked, on_drawn, on_locked, on_look, on_settled, on_start}
 use Rattle.session_talk.specs.Texts.{method_name}
 
 -- where a session stands after the reply
-after_of : Option Code → Talk
+after_of : Option Code → SessionTalk
 after_of None = commands all_commands
 after_of (Some error) = Over (end.Refused (number_of error))
 
@@ -39,6 +40,7 @@ last_moves a look given settling reply =
 
 settles : (a : Attempting) (look : Look) (given : Evidence) (settling : Settling) (reply : Reply) →
     Goes (proved a look given) (last_moves a look given settling reply) (after_of (refusal_of a.user reply))
+unfolding on_look on_checked on_settled on_locked
 settles a look given AtOnce reply = (refl, refl, refl, told (refusal_of a.user reply))
 settles a look given (Once again) reply = (refl, (refl, refl, refl, told (refusal_of a.user reply)))
 settles a look given (Twice again) reply = (refl, (refl, refl, refl, told (refusal_of a.user reply)))
@@ -54,21 +56,22 @@ is_blank-false (suc b ∷ []) is_not = refl
 is_blank-false (b ∷ c ∷ bytes) is_not = refl
 
 -- a talk by tests, and what they say
-answers : (a : Attempting) (look : Look) (nonce bytes : List ℕ) (moves : List Move) (after : Talk) (blank : Bool) → is_blank bytes ≡ blank →
+answers : (a : Attempting) (look : Look) (nonce bytes : List ℕ) (moves : List Move) (after : SessionTalk) (blank : Bool) → is_blank bytes ≡ blank →
     Goes (answering a look nonce bytes blank) moves after → Goes (answer a look nonce bytes) moves after
 answers a look nonce bytes moves after blank e goes = subst (λ (b : Bool). Goes (answering a look nonce bytes b) moves after) (sym e) goes
 
-proves : (a : Attempting) (look : Look) (nonce bytes : List ℕ) (moves : List Move) (after : Talk) (method : Method) → method_of look ≡ method →
+proves : (a : Attempting) (look : Look) (nonce bytes : List ℕ) (moves : List Move) (after : SessionTalk) (method : Method) → method_of look ≡ method →
     Goes (proving a look nonce bytes method) moves after → Goes (answering a look nonce bytes false) moves after
 proves a look nonce bytes moves after method e goes = subst (λ (m : Method). Goes (proving a look nonce bytes m) moves after) (sym e) goes
 
-knows : (a : Attempting) (look : Look) (nonce bytes : List ℕ) (moves : List Move) (after : Talk) (known : Bool) → known_fits_of look.in_force nonce bytes ≡ known →
+knows : (a : Attempting) (look : Look) (nonce bytes : List ℕ) (moves : List Move) (after : SessionTalk) (known : Bool) → known_fits_of look.in_force nonce bytes ≡ known →
     Goes (caching a look nonce bytes known) moves after → Goes (proving a look nonce bytes CachingSha2) moves after
 knows a look nonce bytes moves after known e goes = subst (λ (b : Bool). Goes (caching a look nonce bytes b) moves after) (sym e) goes
 
 -- the answer to a nonce, and all that follows it
 answers_on : (a : Attempting) (look : Look) (nonce bytes : List ℕ) (proof : Proof) (settling : Settling) (reply : Reply) → IsProof look nonce bytes proof →
     Goes (answer a look nonce bytes) (proof_moves proof ++ last_moves a look (evidence_in nonce bytes proof) settling reply) (after_of (refusal_of a.user reply))
+unfolding heard_by
 answers_on a look nonce bytes Blank settling reply is =
     answers a look nonce bytes _ _ true (is_blank-true bytes is) (settles a look _ settling reply)
 answers_on a look nonce bytes Answered settling reply is =
@@ -81,7 +84,7 @@ answers_on a look nonce bytes (Clear text) settling reply is =
     (proves a look nonce bytes _ _ CachingSha2 is.1 (knows a look nonce bytes _ _ false is.2 (refl, settles a look _ settling reply)))
 
 -- the method, and all that follows
-names : (a : Attempting) (claim : Claim) (look : Look) (moves : List Move) (after : Talk) (named : Bool) → is_named claim look ≡ named →
+names : (a : Attempting) (claim : Claim) (look : Look) (moves : List Move) (after : SessionTalk) (named : Bool) → is_named claim look ≡ named →
     Goes (claimed a claim look named) moves after → Goes (claimed a claim look (is_named claim look)) moves after
 names a claim look moves after named e goes = subst (λ (b : Bool). Goes (claimed a claim look b) moves after) (sym e) goes
 
@@ -98,6 +101,7 @@ claims : (nonce : List ℕ) (said : Response) (look : Look) (exchange : Exchange
     (exchange_moves look exchange ++ (proof_moves proof
     ++ last_moves (attempt_of said) look (evidence_in (nonce_in nonce exchange) (answer_in said exchange) proof) settling reply))
     (after_of (refusal_of said.user reply))
+unfolding heard_by on_drawn
 claims nonce said look Named proof settling reply is_exchange is_proof =
     names (attempt_of said) (claim_of nonce said) look _ _ true (is_named-true (claim_of nonce said) look is_exchange)
     (answers_on (attempt_of said) look nonce said.auth proof settling reply is_proof)
@@ -106,12 +110,13 @@ claims nonce said look (Switched fresh bytes) proof settling reply is_exchange i
     (refl, answers_on (attempt_of said) look fresh bytes proof settling reply is_proof)
 
 -- the response, and all that follows
-responds : (nonce payload : List ℕ) (said : Response) (moves : List Move) (after : Talk) → response.Spells said payload →
+responds : (nonce payload : List ℕ) (said : Response) (moves : List Move) (after : SessionTalk) → response.Spells said payload →
     Goes (responded nonce (Ok said)) moves after → Goes (responded nonce (response.read (start payload))) moves after
 responds nonce payload said moves after spelled goes =
     subst (λ (r : Result Response ℕ). Goes (responded nonce r) moves after) (sym (response-lawful.only (start payload) said spelled)) goes
 
-pub each_goes : (id : ℕ) (moves : List Move) (reply : Reply) → Conversation id moves reply → (after : Talk) × Goes (session id) moves after
+pub each_goes : (id : ℕ) (moves : List Move) (reply : Reply) → Conversation id moves reply → (after : SessionTalk) × Goes (session id) moves after
+unfolding heard_by on_start on_look
 each_goes id moves reply c = (
   after_of (refusal_of c.said.user reply),
   subst (λ (ms : List Move). Goes (session id) ms (after_of (refusal_of c.said.user reply))) (sym c.laid_out) (

@@ -1,19 +1,22 @@
 -- Reading ends with the last input that is answered, and what is said of that end.
-use Rattle.std.proofs.Common.{◌≡◌, refl, ap, sym, ◌∙◌, subst, inl, inr, ◌⊎◌, IsTrue, ℕ, Bool, true, false, List, [], ◌∷◌, ◌++◌, Option, Some, None, append_assoc, append-nil}
+use Rattle.std.proofs.Common.{◌≡◌, refl, ap, sym, ◌∙◌, subst, inl, inr, ◌⊎◌, IsTrue, ℕ, Bool, List, [], ◌∷◌, ◌++◌, Option, Some, None, append_assoc, append-nil}
 use Rattle.packet_frame.specs.Packets.{id_after}
 use Rattle.packet_frame.specs.declared.packets.FrameFault.{FrameFault}
 use Rattle.packet_frame.specs.declared.packets.FrameFault.TheVariants.{TooLarge, OutOfOrder, Memory as NoMemory}
+use Rattle.packet_stream.specs.Sent.{Sent, sent_from}
+use Rattle.interaction.specs.Talk.{Reading, Hears, Asks, Over}
 use Rattle.session_talk.specs.declared.ends.SessionEnd.{SessionEnd}
 use Rattle.session_talk.specs.declared.ends.SessionEnd.TheVariants as end
 use Rattle.session_talk.specs.declared.inputs.Input.{Input}
 use Rattle.session_talk.specs.declared.inputs.Input.TheVariants as input
 use Rattle.session_talk.specs.Laws.{RunsEndAsOwed}
+use Rattle.session_talk.specs.Logins.{faulted}
 use Rattle.session_talk.specs.Owed.{Owed, after_all_sent, owed}
-use Rattle.packet_stream.specs.Sent.{Sent, sent_from}
 use Rattle.session_talk.specs.Runs.{AllAnswer, EachAnswers, IsLive, IsOpen, Standing, ending_by, owns_in, packets_in, sent_on, spoken, stands_after, stands_on}
-use Rattle.session_talk.specs.Talk.{Talk, Hears, Draws, Over}
-use Rattle.session_talk.specs.Turns.{IsAsked, faulted, heard, is_answer, rest, said, wanted_by}
-use Rattle.session_talk.proofs.Running.{at, runs_are_owed, untrue}
+use Rattle.session_talk.specs.Talk.{SessionTalk}
+use Rattle.session_talk.specs.Turns.{IsAsked, heard, is_answer, rest, said, wanted_by}
+use Rattle.session_talk.proofs.Asking.{own_answer, untrue}
+use Rattle.session_talk.proofs.Running.{at, runs_are_owed}
 
 -- ## The last one
 
@@ -31,7 +34,7 @@ none_after_fault next NoMemory inputs each = none_after next _ inputs each
 abbrev EndsLast : Standing → List Input → Type 0
 EndsLast s inputs =
     AllAnswer s inputs
-    ⊎ ((before : List Input) × (last : Input) × (t : Talk) × (inputs ≡ before ++ last ∷ []) × AllAnswer s before × (ending_by last ≡ Some t))
+    ⊎ ((before : List Input) × (last : Input) × (t : SessionTalk) × (inputs ≡ before ++ last ∷ []) × AllAnswer s before × (ending_by last ≡ Some t))
 
 longer : (s : Standing) (given : Input) (inputs : List Input) → IsOpen given → IsLive s.at → IsTrue (is_answer s.at given) → IsAsked s.at given →
     EndsLast (stands_on s given) inputs → EndsLast s (given ∷ inputs)
@@ -39,10 +42,10 @@ longer s given inputs opens live is asked (inl all) = inl (opens, live, is, aske
 longer s given inputs opens live is asked (inr e) =
     inr (given ∷ e.0, e.1, e.2, ap (λ (more : List Input). given ∷ more) e.3, (opens, live, is, asked, e.4), e.5)
 
-alone : (s : Standing) (given : Input) (inputs : List Input) (t : Talk) → inputs ≡ [] → ending_by given ≡ Some t → EndsLast s (given ∷ inputs)
+alone : (s : Standing) (given : Input) (inputs : List Input) (t : SessionTalk) → inputs ≡ [] → ending_by given ≡ Some t → EndsLast s (given ∷ inputs)
 alone s given inputs t e by = inr ([], given, t, ap (λ (more : List Input). given ∷ more) e, tt, by)
 
-ends_last : (inputs : List Input) (next : ℕ) (t : Talk) → EachAnswers (at next t) inputs → EndsLast (at next t) inputs
+ends_last : (inputs : List Input) (next : ℕ) (t : SessionTalk) → EachAnswers (at next t) inputs → EndsLast (at next t) inputs
 unfolding heard is_answer rest
 ends_last [] next t each = inl tt
 ends_last (input.Frame fault ∷ inputs) next (Hears anew k) each =
@@ -52,16 +55,13 @@ ends_last (input.End cut ∷ inputs) next (Hears anew k) each =
 ends_last (input.LinkFailed ∷ inputs) next (Hears anew k) each =
     alone (at next (Hears anew k)) input.LinkFailed inputs _ (none_after _ _ inputs each.3) refl
 ends_last (input.Frame fault ∷ inputs) next (Over how) each = absurd each.0
-ends_last (input.Frame fault ∷ inputs) next (Draws true k) each = absurd (untrue each.1)
-ends_last (input.Frame fault ∷ inputs) next (Draws false k) each = absurd (untrue each.1)
+ends_last (input.Frame fault ∷ inputs) next (Asks q k) each = absurd (untrue (own_answer q (input.Frame fault) each.1).1)
 ends_last (input.Frame fault ∷ inputs) next t each = absurd (untrue each.1)
 ends_last (input.End cut ∷ inputs) next (Over how) each = absurd each.0
-ends_last (input.End cut ∷ inputs) next (Draws true k) each = absurd (untrue each.1)
-ends_last (input.End cut ∷ inputs) next (Draws false k) each = absurd (untrue each.1)
+ends_last (input.End cut ∷ inputs) next (Asks q k) each = absurd (untrue (own_answer q (input.End cut) each.1).1)
 ends_last (input.End cut ∷ inputs) next t each = absurd (untrue each.1)
 ends_last (input.LinkFailed ∷ inputs) next (Over how) each = absurd each.0
-ends_last (input.LinkFailed ∷ inputs) next (Draws true k) each = absurd (untrue each.1)
-ends_last (input.LinkFailed ∷ inputs) next (Draws false k) each = absurd (untrue each.1)
+ends_last (input.LinkFailed ∷ inputs) next (Asks q k) each = absurd (untrue (own_answer q input.LinkFailed each.1).1)
 ends_last (input.LinkFailed ∷ inputs) next t each = absurd (untrue each.1)
 ends_last (given ∷ inputs) next t each =
     longer (at next t) given inputs tt each.0 each.1 each.2 (ends_last inputs _ _ each.3)
@@ -79,21 +79,21 @@ stands_more [] last s = refl
 stands_more (given ∷ before) last s = stands_more before last (stands_on s given)
 
 -- what is told at a talk, where so much was sent before and this is owed
-abbrev Told : (next : ℕ) → Talk → Input → Talk → List Sent → Owed → Type 0
+abbrev Told : (next : ℕ) → SessionTalk → Input → SessionTalk → List Sent → Owed → Type 0
 Told next u last t sent o =
     (sent ++ sent_on (at next u) last ≡ o.sent ++ sent_from (id_after (wanted_by o.next o.at)) (said t))
     × (rest (heard u last) ≡ rest t)
     × (o.unread ≡ []) × (o.unused ≡ [])
 
-the_talk : Talk → Option Talk → Talk
+the_talk : SessionTalk → Option SessionTalk → SessionTalk
 the_talk t None = t
 the_talk t (Some u) = u
 
-same_talk : (t u : Talk) → Some t ≡ Some u → t ≡ u
+same_talk : (t u : SessionTalk) → Some t ≡ Some u → t ≡ u
 unfolding the_talk
 same_talk t u e = ap (the_talk t) e
 
-module _ (next : ℕ) (anew : Bool) (k : List ℕ → Talk) (sent : List Sent) where
+module _ (next : ℕ) (anew : Bool) (k : Reading → SessionTalk) (sent : List Sent) where
   -- what is owed where a packet is waited for
   abbrev waiting : Owed
   waiting = after_all_sent sent (owed next (Hears anew k) [] [])
@@ -111,23 +111,20 @@ module _ (next : ℕ) (anew : Bool) (k : List ℕ → Talk) (sent : List Sent) w
   unfolding owed heard said
   tells_failure = (sym (append-nil (sent ++ [])), refl, refl, refl)
 
-told_at : (last : Input) (next : ℕ) (u t : Talk) (sent : List Sent) → IsLive u → IsTrue (is_answer u last) → ending_by last ≡ Some t →
+told_at : (last : Input) (next : ℕ) (u t : SessionTalk) (sent : List Sent) → IsLive u → IsTrue (is_answer u last) → ending_by last ≡ Some t →
     Told next u last t sent (after_all_sent sent (owed next u [] []))
 unfolding is_answer
-told_at (input.Frame fault) next (Hears anew k) t sent live is by = subst (λ (v : Talk). Told next (Hears anew k) (input.Frame fault) v sent (waiting next anew k sent)) (same_talk _ _ by) (tells_fault next anew k sent fault)
-told_at (input.End cut) next (Hears anew k) t sent live is by = subst (λ (v : Talk). Told next (Hears anew k) (input.End cut) v sent (waiting next anew k sent)) (same_talk _ _ by) (tells_end next anew k sent cut)
-told_at input.LinkFailed next (Hears anew k) t sent live is by = subst (λ (v : Talk). Told next (Hears anew k) input.LinkFailed v sent (waiting next anew k sent)) (same_talk _ _ by) (tells_failure next anew k sent)
+told_at (input.Frame fault) next (Hears anew k) t sent live is by = subst (λ (v : SessionTalk). Told next (Hears anew k) (input.Frame fault) v sent (waiting next anew k sent)) (same_talk _ _ by) (tells_fault next anew k sent fault)
+told_at (input.End cut) next (Hears anew k) t sent live is by = subst (λ (v : SessionTalk). Told next (Hears anew k) (input.End cut) v sent (waiting next anew k sent)) (same_talk _ _ by) (tells_end next anew k sent cut)
+told_at input.LinkFailed next (Hears anew k) t sent live is by = subst (λ (v : SessionTalk). Told next (Hears anew k) input.LinkFailed v sent (waiting next anew k sent)) (same_talk _ _ by) (tells_failure next anew k sent)
 told_at (input.Frame fault) next (Over how) t sent live is by = absurd live
-told_at (input.Frame fault) next (Draws true k) t sent live is by = absurd (untrue is)
-told_at (input.Frame fault) next (Draws false k) t sent live is by = absurd (untrue is)
+told_at (input.Frame fault) next (Asks q k) t sent live is by = absurd (untrue (own_answer q (input.Frame fault) is).1)
 told_at (input.Frame fault) next u t sent live is by = absurd (untrue is)
 told_at (input.End cut) next (Over how) t sent live is by = absurd live
-told_at (input.End cut) next (Draws true k) t sent live is by = absurd (untrue is)
-told_at (input.End cut) next (Draws false k) t sent live is by = absurd (untrue is)
+told_at (input.End cut) next (Asks q k) t sent live is by = absurd (untrue (own_answer q (input.End cut) is).1)
 told_at (input.End cut) next u t sent live is by = absurd (untrue is)
 told_at input.LinkFailed next (Over how) t sent live is by = absurd live
-told_at input.LinkFailed next (Draws true k) t sent live is by = absurd (untrue is)
-told_at input.LinkFailed next (Draws false k) t sent live is by = absurd (untrue is)
+told_at input.LinkFailed next (Asks q k) t sent live is by = absurd (untrue (own_answer q input.LinkFailed is).1)
 told_at input.LinkFailed next u t sent live is by = absurd (untrue is)
 told_at given next u t sent live is by = absurd (none_some by)
   where
@@ -135,13 +132,13 @@ told_at given next u t sent live is by = absurd (none_some by)
     none_some e = absurd (cc)
 
 -- a session has ended where reading has
-over_then : (last : Input) (t : Talk) → ending_by last ≡ Some t → IsLive (rest t) → ⊥
+over_then : (last : Input) (t : SessionTalk) → ending_by last ≡ Some t → IsLive (rest t) → ⊥
 unfolding rest
-over_then (input.Frame (TooLarge place)) t by live = subst (λ (v : Talk). IsLive (rest v)) (sym (same_talk _ _ by)) live
-over_then (input.Frame (OutOfOrder place want got)) t by live = subst (λ (v : Talk). IsLive (rest v)) (sym (same_talk _ _ by)) live
-over_then (input.Frame NoMemory) t by live = subst (λ (v : Talk). IsLive (rest v)) (sym (same_talk _ _ by)) live
-over_then (input.End cut) t by live = subst (λ (v : Talk). IsLive (rest v)) (sym (same_talk _ _ by)) live
-over_then input.LinkFailed t by live = subst (λ (v : Talk). IsLive (rest v)) (sym (same_talk _ _ by)) live
+over_then (input.Frame (TooLarge place)) t by live = subst (λ (v : SessionTalk). IsLive (rest v)) (sym (same_talk _ _ by)) live
+over_then (input.Frame (OutOfOrder place want got)) t by live = subst (λ (v : SessionTalk). IsLive (rest v)) (sym (same_talk _ _ by)) live
+over_then (input.Frame NoMemory) t by live = subst (λ (v : SessionTalk). IsLive (rest v)) (sym (same_talk _ _ by)) live
+over_then (input.End cut) t by live = subst (λ (v : SessionTalk). IsLive (rest v)) (sym (same_talk _ _ by)) live
+over_then input.LinkFailed t by live = subst (λ (v : SessionTalk). IsLive (rest v)) (sym (same_talk _ _ by)) live
 over_then given t by live = absurd (none_some by)
   where
     none_some : None ≡ Some t → ⊥
@@ -163,7 +160,7 @@ still_open : (before : List Input) (s : Standing) → EachAnswers s before → I
 still_open before s each live (inl all) = all
 still_open before s each live (inr e) = absurd (ended (splits e.0 e.1 s (subst (EachAnswers s) e.3 each)))
   where
-    u : Talk
+    u : SessionTalk
     u = (stands_after s e.0).at
 
     ended : Before s e.0 e.1 → ⊥
@@ -171,7 +168,7 @@ still_open before s each live (inr e) = absurd (ended (splits e.0 e.1 s (subst (
         (subst IsLive (told_at e.1 (stands_after s e.0).next (stands_after s e.0).at e.2 [] b.1 b.2 e.5).1
         (subst (λ (i : Standing). IsLive i.at) (stands_more e.0 e.1 s) (subst (λ (is : List Input). IsLive (stands_after s is).at) e.3 live)))
 
-is_told : (s : Standing) (before : List Input) (last : Input) (t : Talk) → EachAnswers s (before ++ last ∷ []) → ending_by last ≡ Some t →
+is_told : (s : Standing) (before : List Input) (last : Input) (t : SessionTalk) → EachAnswers s (before ++ last ∷ []) → ending_by last ≡ Some t →
     let o = owed s.next s.at (packets_in before) (owns_in before) in
     (spoken s (before ++ last ∷ []) ≡ o.sent ++ sent_from (id_after (wanted_by o.next o.at)) (said t))
     × ((stands_after s (before ++ last ∷ [])).at ≡ rest t)

@@ -1,3 +1,4 @@
+pub mod Words
 pub mod Reading
 pub mod GoingOn
 pub mod OverBytes
@@ -5,7 +6,7 @@ pub mod Conversing
 pub mod Settled
 pub mod Running
 pub mod Ending
-pub mod Following
+pub mod Putting
 pub mod Transcribing
 pub mod Transcripts
 pub mod Coming

@@ -17,15 +17,16 @@ use Rattle.auth_packets.specs.declared.commands.Command.{Command}
 use Rattle.auth_packets.specs.declared.commands.Command.TheVariants.{Quit, Query, Ping, Reset, ChangeUser as Change, Other, Nothing}
 use Rattle.auth_packets.specs.declared.handshake.Response.{Response}
 use Rattle.auth_packets.proofs.HandshakeLaws.{response-lawful}
+use Rattle.interaction.specs.Talk.{Over, Says}
 use Rattle.session_talk.specs.declared.attempts.Attempting.{Attempting}
 use Rattle.session_talk.specs.declared.ends.SessionEnd.{SessionEnd}
 use Rattle.session_talk.specs.Conversation.{Conversation, Goes, Move, Drew, Sent, Got, Looked, Stale, Settled, Exchange, Named, Switched, IsExchange, exchange_moves, nonce_in, answer_in, Proof, Blank, Answered, Known, Clear, IsBlank, IsProof, proof_moves, evidence_in, Settling, AtOnce, Once, Twice, last_payload, greeting_moves}
-use Rattle.session_talk.specs.Logins.{all_commands, answered, answering, attempt_of, caching, claim_of, claimed, commanded, commands, is_blank, is_named, method_of, next_command, proved, proving, refusal_of, responded, session}
-use Rattle.session_talk.specs.Talk.{Talk, Over, Says}
+use Rattle.session_talk.specs.Logins.{all_commands, answered, answering, attempt_of, caching, claim_of, claimed, commanded, commands, heard_by, is_blank, is_named, method_of, next_command, proved, proving, refusal_of, responded, session}
+use Rattle.session_talk.specs.Talk.{SessionTalk, on_checked, on_drawn, on_locked, on_look, on_settled, on_start}
 use Rattle.session_talk.specs.Texts.{fast_payload, full_payload, method_name, switch_payload}
 use Rattle.session_talk.proofs.Conversing.{last_moves}
 
-module _ (user : List ℕ) (evidences : List Evidence) (flags : ℕ) (reply : Reply) (payload : List ℕ) (after : Talk) where
+module _ (user : List ℕ) (evidences : List Evidence) (flags : ℕ) (reply : Reply) (payload : List ℕ) (after : SessionTalk) where
   -- a settling, and what is sent because of it
   abbrev tail : List Move
   tail = Settled user evidences flags reply ∷ Sent payload ∷ []
@@ -45,7 +46,7 @@ module _ (user : List ℕ) (evidences : List Evidence) (flags : ℕ) (reply : Re
   says_over how told _ goes = absurd goes
 
   never : (left : ℕ) (before : List Move) → Goes (commands left) (before ++ tail) after → ⊥
-  unfolding next_command
+  unfolding next_command heard_by
   never zero (Got p ∷ before) goes = over _ before goes
   never (suc left) (Got p ∷ before) goes = never_by left (command.read (start p)) before goes (λ more. never left more)
     where
@@ -82,6 +83,7 @@ module _ (user : List ℕ) (evidences : List Evidence) (flags : ℕ) (reply : Re
 
   settles : (a : Attempting) (look : Look) (given : Evidence) (before : List Move) → Goes (proved a look given) (before ++ tail) after →
       Settles_so a look given (before ++ tail)
+  unfolding on_look on_checked on_settled on_locked
   settles a look given [] goes = (AtOnce, tail_is _ _ _ _ goes.0 goes.1 goes.2 (told (refusal_of a.user reply) goes.3))
   settles a look given (Settled u e f r ∷ before) goes = absurd (never_again (refusal_of a.user r) before goes.3)
   settles a look given (Stale ∷ Looked who again ∷ []) goes = (Once again, moved)
@@ -125,6 +127,7 @@ module _ (user : List ℕ) (evidences : List Evidence) (flags : ℕ) (reply : Re
   caching_so : (a : Attempting) (look : Look) (nonce bytes : List ℕ) (known : Bool) (before : List Move) → ¬ IsBlank bytes → method_of look ≡ CachingSha2 →
       known_fits_of look.in_force nonce bytes ≡ known → Goes (caching a look nonce bytes known) (before ++ tail) after →
       Proves_so a look nonce bytes (before ++ tail)
+  unfolding heard_by
   caching_so a look nonce bytes true (Sent p ∷ before) filled method knows goes =
       let s = settles a look _ before goes.1 in
       (Known, (filled, method, knows), s.0, ap (λ (q : List ℕ). Sent q ∷ (before ++ tail)) goes.0 ∙ ap (λ (ms : List Move). Sent fast_payload ∷ ms) s.1)
@@ -160,6 +163,7 @@ module _ (user : List ℕ) (evidences : List Evidence) (flags : ℕ) (reply : Re
 
   claims_so : (nonce : List ℕ) (said : Response) (look : Look) (named : Bool) (before : List Move) → is_named (claim_of nonce said) look ≡ named →
       Goes (claimed (attempt_of said) (claim_of nonce said) look named) (before ++ tail) after → Claims_so nonce said look (before ++ tail)
+  unfolding heard_by on_drawn
   claims_so nonce said look true before is goes =
       let s = answering_so (attempt_of said) look nonce said.auth _ before refl goes in
       (Named, (bytes_eq-Decides said.plugin (method_name (method_of look))).0 is, s.0, s.1, s.2, s.3)
@@ -185,6 +189,7 @@ module _ (user : List ℕ) (evidences : List Evidence) (flags : ℕ) (reply : Re
 
   responds_so : (id : ℕ) (nonce got : List ℕ) (found : Result Response ℕ) (before : List Move) → response.read (start got) ≡ found →
       Goes (responded nonce found) (before ++ tail) after → Conversation id (greeting_moves id nonce got ++ (before ++ tail)) reply
+  unfolding on_look
   responds_so id nonce got (Ok said) (Looked who look ∷ before) is goes =
       let s = claims_so nonce said look _ before refl goes.1 in
       record {
@@ -205,6 +210,7 @@ module _ (user : List ℕ) (evidences : List Evidence) (flags : ℕ) (reply : Re
   responds_so id nonce got (Err at) before is goes = absurd (says_over _ _ before goes)
 
   pub each_is : (id : ℕ) (before : List Move) → Goes (session id) (before ++ tail) after → Conversation id (before ++ tail) reply
+  unfolding heard_by on_start
   each_is id (Drew nonce ∷ Sent p ∷ Got got ∷ before) goes =
       subst (λ (q : List ℕ). Conversation id (Drew nonce ∷ Sent q ∷ Got got ∷ (before ++ tail)) reply) (sym goes.0)
       (responds_so id nonce got _ before refl goes.1)
