@@ -205,13 +205,13 @@ reads_all reply words rest commands (Asks Begins k) c next place stream (input.S
 reads_all reply words rest commands (Asks (Own ask.Draw) k) c next place stream (input.Drawn nonce ∷ owns) fits nonces used found tied =
     reads_all reply words rest commands (k (input.Drawn nonce)) c next place stream owns (fits nonce nonces.0) nonces.1 used found tied
 reads_all reply words rest commands (Asks (Own (ask.Observe who)) k) c next place stream (input.Looked look ∷ owns) fits nonces used found tied =
-    reads_all reply words rest commands (k (input.Looked look)) c next place stream owns (fits look) nonces used found tied
+    reads_all reply words rest commands (k (input.Looked look)) c next place stream owns (fits look) nonces.1 used found tied
 reads_all reply words rest commands (Asks (Own (ask.Renew who)) k) c next place stream (input.Looked look ∷ owns) fits nonces used found tied =
-    reads_all reply words rest commands (k (input.Looked look)) c next place stream owns (fits look) nonces used found tied
+    reads_all reply words rest commands (k (input.Looked look)) c next place stream owns (fits look) nonces.1 used found tied
 reads_all reply words rest commands (Asks (Own (ask.Check look evidences)) k) c next place stream (input.Checked checked ∷ owns) fits nonces used found tied =
-    reads_all reply words rest commands (k (input.Checked checked)) c next place stream owns (fits checked) nonces used found tied
+    reads_all reply words rest commands (k (input.Checked checked)) c next place stream owns (fits checked) nonces.1 used found tied
 reads_all reply words rest commands (Asks (Own (ask.Settle checked flags)) k) c next place stream (input.Stale evidences ∷ owns) fits nonces used found tied =
-    reads_all reply words rest commands (k (input.Stale evidences)) c next place stream owns (fits.0 evidences) nonces used found tied
+    reads_all reply words rest commands (k (input.Stale evidences)) c next place stream owns (fits.0 evidences) nonces.1 used found tied
 reads_all reply words rest commands (Asks (Own (ask.Settle checked flags)) k) c next place stream (input.Settled replied ∷ owns) fits nonces used found tied =
     told_reads c next place (k (input.Settled replied)) stream owns (fits.1 replied (subst (λ (r : Reply). HasWords r) (some_reply replied reply found) words))
 reads_all reply words rest commands (Asks (Own (ask.SettleLocked user evidences flags)) k) c next place stream (input.Settled replied ∷ owns) fits nonces used found tied =

@@ -8,7 +8,6 @@ use Rattle.session_talk.proofs.OverBytes.{wired_goes_on}
 use Rattle.packet_stream.specs.Streams.{Stream, with_more}
 use Rattle.session_talk.specs.Logins.{session}
 use Rattle.session_talk.specs.declared.inputs.Input.{Input}
-use Rattle.session_talk.specs.declared.inputs.Input.TheVariants as input
 use Rattle.packet_stream.specs.Sent.{Sent}
 use Rattle.interaction.specs.Talk.{Over}
 use Rattle.session_talk.specs.Talk.{SessionTalk}
@@ -55,9 +54,7 @@ Follows number (Some place) bytes sent entries how = Stands number place bytes s
 
 nonces_both : (owns more : List Input) → AreNonces owns → AreNonces more → AreNonces (owns ++ more)
 nonces_both [] more first second = second
-nonces_both (input.Start nonce ∷ owns) more first second = (first.0, nonces_both owns more first.1 second)
-nonces_both (input.Drawn nonce ∷ owns) more first second = (first.0, nonces_both owns more first.1 second)
-nonces_both (_ ∷ owns) more first second = nonces_both owns more first second
+nonces_both (given ∷ owns) more first second = (first.0, nonces_both owns more first.1 second)
 
 as_live : (w : Wired) (next : ℕ) (at : SessionTalk) (unread : Stream) → IsLive w next at unread →
     w ≡ record { sent = w.sent; next = next; at = at; unread = unread; unused = [] }

@@ -21,7 +21,7 @@ use Rattle.session_talk.specs.Turns.{Adds, IsFitting, takes, wanted}
 use Rattle.session_talk.specs.Wired as wiring
 use Rattle.session_talk.specs.Wired.{Wired, after_sent, said_from, wired}
 use Rattle.packet_stream.specs.Streams.{Stream, behind_of, by_front, front_of}
-use Rattle.both_ends.specs.Meeting.{AreNonces}
+use Rattle.both_ends.specs.Meeting.{AreNonces, HasWholeNonce}
 use Rattle.session_world.specs.declared.calls.Calls.{Calls}
 use Rattle.session_world.specs.declared.calls.Peer.{Peer}
 use Rattle.session_world.specs.declared.calls.Peer.TheVariants.{Open, Closed, Failed}
@@ -154,13 +154,13 @@ module _ (peer : Peer) (next : ℕ) (q : Question) (k : Input → SessionTalk) (
   unfolding wired
   taken_wired owns = ap (λ (b : Bool). if b then wired next (k given) stream owns else wiring.stops next (Asks q k) stream (given ∷ owns)) is
 
-  answered : (added : List Entry) (lines : List Line) (g : Gone) → ((owns : List Input) → AreNonces owns → AreNonces (given ∷ owns)) →
+  answered : (added : List Entry) (lines : List Line) (g : Gone) → HasWholeNonce given →
       IsFitting q given → Adds q given added → entries_in lines ≡ added ++ entries_in g.lines → sends_in lines ≡ sends_in g.lines → ends_in lines ≡ ends_in g.lines →
       GoesAsOwed peer next (k given) stream g → GoesAsOwed peer next (Asks q k) stream (record g { lines = lines })
   unfolding Enters
-  answered added lines g nonces fits adds joined sends ends x = record {
+  answered added lines g whole fits adds joined sends ends x = record {
     owns = given ∷ x.owns;
-    nonces = nonces x.owns x.nonces;
+    nonces = (whole, x.nonces);
     entered = (
       added,
       entries_in g.lines,
@@ -201,19 +201,19 @@ goes_as_owed peer calls c next (Hears anew k) stream =
 goes_as_owed peer calls c next (Asks Begins k) stream =
     let given : Input = input.Start (drawn_nonce (c.drawn + 1)) in
     let g : Gone = going peer calls (with_draw c) next (k given) stream in
-    answered peer next Begins k stream given refl [] g.lines g (λ owns nonces. (nonce_long (c.drawn + 1), nonces)) tt refl refl refl refl
+    answered peer next Begins k stream given refl [] g.lines g (nonce_long (c.drawn + 1)) tt refl refl refl refl
     (goes_as_owed peer calls (with_draw c) next (k given) stream)
 goes_as_owed peer calls c next (Asks (Own ask.Draw) k) stream =
     let given : Input = input.Drawn (drawn_nonce (c.drawn + 1)) in
     let g : Gone = going peer calls (with_draw c) next (k given) stream in
-    answered peer next (Own ask.Draw) k stream given refl [] g.lines g (λ owns nonces. (nonce_long (c.drawn + 1), nonces)) tt refl refl refl refl
+    answered peer next (Own ask.Draw) k stream given refl [] g.lines g (nonce_long (c.drawn + 1)) tt refl refl refl refl
     (goes_as_owed peer calls (with_draw c) next (k given) stream)
 goes_as_owed peer calls c next (Asks (Own (ask.Observe who)) k) stream =
     let given : Input = input.Looked (seen c who) in
     let entry : Entry = Observed who (seen c who) in
     let g : Gone = going peer (spent calls) (with_entry c entry) next (k given) stream in
     if_allowed_is (GoesAsOwed peer next (Asks (Own (ask.Observe who)) k) stream) calls _ _
-    (answered peer next (Own (ask.Observe who)) k stream given refl (entry ∷ []) (line.Adds (next_number c) entry ∷ g.lines) g (λ owns nonces. nonces) tt refl refl refl refl
+    (answered peer next (Own (ask.Observe who)) k stream given refl (entry ∷ []) (line.Adds (next_number c) entry ∷ g.lines) g tt tt refl refl refl refl
     (goes_as_owed peer (spent calls) (with_entry c entry) next (k given) stream))
     (unanswered peer c next (Own (ask.Observe who)) k stream)
 goes_as_owed peer calls c next (Asks (Own (ask.Renew who)) k) stream =
@@ -221,13 +221,13 @@ goes_as_owed peer calls c next (Asks (Own (ask.Renew who)) k) stream =
     let entry : Entry = Observed who (seen c who) in
     let g : Gone = going peer (spent calls) (with_entry c entry) next (k given) stream in
     if_allowed_is (GoesAsOwed peer next (Asks (Own (ask.Renew who)) k) stream) calls _ _
-    (answered peer next (Own (ask.Renew who)) k stream given refl (entry ∷ []) (line.Adds (next_number c) entry ∷ g.lines) g (λ owns nonces. nonces) tt refl refl refl refl
+    (answered peer next (Own (ask.Renew who)) k stream given refl (entry ∷ []) (line.Adds (next_number c) entry ∷ g.lines) g tt tt refl refl refl refl
     (goes_as_owed peer (spent calls) (with_entry c entry) next (k given) stream))
     (unanswered peer c next (Own (ask.Renew who)) k stream)
 goes_as_owed peer calls c next (Asks (Own (ask.Check look evidences)) k) stream =
     let given : Input = input.Checked (record { look = look; evidences = evidences }) in
     let g : Gone = going peer calls c next (k given) stream in
-    answered peer next (Own (ask.Check look evidences)) k stream given refl [] g.lines g (λ owns nonces. nonces) refl refl refl refl refl
+    answered peer next (Own (ask.Check look evidences)) k stream given refl [] g.lines g tt refl refl refl refl refl
     (goes_as_owed peer calls c next (k given) stream)
 goes_as_owed peer calls c next (Asks (Own (ask.Settle checked flags)) k) stream =
     let late : Input = input.Stale checked.evidences in
@@ -237,9 +237,9 @@ goes_as_owed peer calls c next (Asks (Own (ask.Settle checked flags)) k) stream 
     let h : Gone = going peer (spent calls) (with_entry c entry) next (k given) stream in
     if_allowed_is (GoesAsOwed peer next (Asks (Own (ask.Settle checked flags)) k) stream) calls _ _
     (if_is (GoesAsOwed peer next (Asks (Own (ask.Settle checked flags)) k) stream) (is_stale c checked.look) _ _
-    (answered peer next (Own (ask.Settle checked flags)) k stream late refl [] (line.Stale ∷ g.lines) g (λ owns nonces. nonces) refl refl refl refl refl
+    (answered peer next (Own (ask.Settle checked flags)) k stream late refl [] (line.Stale ∷ g.lines) g tt refl refl refl refl refl
     (goes_as_owed peer (spent calls) c next (k late) stream))
-    (answered peer next (Own (ask.Settle checked flags)) k stream given refl (entry ∷ []) (line.Adds (next_number c) entry ∷ h.lines) h (λ owns nonces. nonces)
+    (answered peer next (Own (ask.Settle checked flags)) k stream given refl (entry ∷ []) (line.Adds (next_number c) entry ∷ h.lines) h tt
     tt (c.clock, refl) refl refl refl (goes_as_owed peer (spent calls) (with_entry c entry) next (k given) stream)))
     (unanswered peer c next (Own (ask.Settle checked flags)) k stream)
 goes_as_owed peer calls c next (Asks (Own (ask.SettleLocked user evidences flags)) k) stream =
@@ -248,7 +248,7 @@ goes_as_owed peer calls c next (Asks (Own (ask.SettleLocked user evidences flags
     let g : Gone = going peer (spent calls) (with_entry c entry) next (k given) stream in
     if_allowed_is (GoesAsOwed peer next (Asks (Own (ask.SettleLocked user evidences flags)) k) stream) calls _ _
     (answered peer next (Own (ask.SettleLocked user evidences flags)) k stream given refl (entry ∷ []) (line.Adds (next_number c) entry ∷ g.lines) g
-    (λ owns nonces. nonces) tt (c.clock, refl) refl refl refl (goes_as_owed peer (spent calls) (with_entry c entry) next (k given) stream))
+    tt tt (c.clock, refl) refl refl refl (goes_as_owed peer (spent calls) (with_entry c entry) next (k given) stream))
     (unanswered peer c next (Own (ask.SettleLocked user evidences flags)) k stream)
 goes_as_owed peer calls c next (Asks q k) stream = unanswered peer c next q k stream
 goes_as_owed peer calls c next (Over how) stream =

@@ -99,14 +99,22 @@ module _ (peer : Peer) (calls : Calls) (c : Common) (next : ℕ) (stream : Strea
   on_draw _ nonce begun asks is = absurd (cc)
 
   -- evidence is checked
+  abbrev checked_on : (Input → SessionTalk) → Look → List Evidence → Gone
+  checked_on k look evidences = going peer calls c next (k (input.Checked (record { look = look; evidences = evidences }))) stream
+
   pub on_check : (t : SessionTalk) (look : Look) (evidences : List Evidence) (checked : CheckedOf) → IsBegun t → asked next t ≡ ask.Check look evidences →
       checked ≡ record { look = look; evidences = evidences } → going peer calls c next t stream ≡ with_input calls c stream t (input.Checked checked)
   unfolding going question heard wanted_by
   on_check (Asks (Own (ask.Check look' evidences')) k) look evidences checked begun asks is =
-      ap (λ (given : CheckedOf). going peer calls c next (k (input.Checked given)) stream) (same asks ∙ sym is)
+      ap (λ (l : Look). checked_on k l evidences') (same_look asks)
+      ∙ (ap (λ (e : List Evidence). checked_on k look e) (same_evidences asks)
+      ∙ ap (λ (x : CheckedOf). going peer calls c next (k (input.Checked x)) stream) (sym is))
     where
-      same : ask.Check look' evidences' ≡ ask.Check look evidences → record { look = look'; evidences = evidences' } ≡ record { look = look; evidences = evidences }
-      same e = cc
+      same_look : ask.Check look' evidences' ≡ ask.Check look evidences → look' ≡ look
+      same_look e = cc
+
+      same_evidences : ask.Check look' evidences' ≡ ask.Check look evidences → evidences' ≡ evidences
+      same_evidences e = cc
   on_check (Says payload t) look evidences checked begun asks is = absurd begun
   on_check _ look evidences checked begun asks is = absurd (cc)
 
