@@ -14,7 +14,7 @@ use Rattle.auth_packets.proofs.CommandLaws.{command-lawful}
 use Rattle.auth_packets.proofs.HandshakeLaws.{response-lawful}
 use Rattle.session_talk.proofs.Reading.{gives}
 use Rattle.session_talk.specs.Logins.{commanded, commands, next_command, responded, without_zero}
-use Rattle.session_talk.specs.Talk.{Talk}
+use Rattle.session_talk.specs.Talk.{SessionTalk}
 use Rattle.session_engine.specs.Standing.{Stands}
 use Rattle.session_engine.specs.declared.steps.Step.{Step}
 
@@ -40,7 +40,7 @@ pub responds : (nonce payload : List ℕ) (found : Result Response ℕ) (step : 
     Stands step (responded nonce found) → Stands step (responded nonce (response.read (start payload)))
 responds nonce payload found step e stands = subst (λ (r : Result Response ℕ). Stands step (responded nonce r)) (sym e) stands
 
-pub obeys : (payload : List ℕ) (next : Talk) (found : Result Command ℕ) (step : Step) → command.read (start payload) ≡ found →
+pub obeys : (payload : List ℕ) (next : SessionTalk) (found : Result Command ℕ) (step : Step) → command.read (start payload) ≡ found →
     Stands step (commanded found next) → Stands step (commanded (command.read (start payload)) next)
 obeys payload next found step e stands = subst (λ (r : Result Command ℕ). Stands step (commanded r next)) (sym e) stands
 

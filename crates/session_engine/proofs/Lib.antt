@@ -1,3 +1,2 @@
-mod Driving
 mod Found
 mod Whole

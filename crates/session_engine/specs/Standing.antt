@@ -1,6 +1,7 @@
 -- The talk that each phase of a session stands for.
 use Rattle.std.specs.Prelude.{◌≡◌, ℕ, Bool, true, false}
 use Rattle.packet_frame.specs.declared.packets.FrameFault.TheVariants.{Memory as NoMemory}
+use Rattle.interaction.specs.Talk.{Over}
 use Rattle.session_engine.specs.declared.phases.Phase.{Phase}
 use Rattle.session_engine.specs.declared.phases.Phase.TheVariants as phase
 use Rattle.session_engine.specs.declared.session.Session.{Session}
@@ -9,11 +10,11 @@ use Rattle.session_talk.specs.declared.ends.SessionEnd.TheVariants as end
 use Rattle.session_talk.specs.declared.inputs.Input.{Input}
 use Rattle.session_talk.specs.declared.inputs.Input.TheVariants as input
 use Rattle.session_talk.specs.Logins as login
-use Rattle.session_talk.specs.Talk.{Talk, Over}
+use Rattle.session_talk.specs.Talk.{SessionTalk}
 use Rattle.session_talk.specs.Turns.{IsBegun, question, rest, said}
 
 -- the talk at the question that was asked
-unfoldable pub talk_of : Phase → Talk
+unfoldable pub talk_of : Phase → SessionTalk
 talk_of (phase.Fresh id) = login.session id
 talk_of (phase.Greeted nonce) = login.greeted nonce
 talk_of (phase.Looking a claim) = login.looking a claim
@@ -28,14 +29,14 @@ talk_of (phase.Commanding left) = login.commands left
 talk_of (phase.Over how) = Over how
 
 -- a step does what a talk says, up to its next question
-pub record Stands (step : Step) (t : Talk) : Type 0 where
+pub record Stands (step : Step) (t : SessionTalk) : Type 0 where
   pub sends : step.send ≡ said t
   pub asks : step.ask ≡ question (rest t)
   pub goes_on : talk_of step.phase ≡ rest t
   pub begun : IsBegun (rest t)
 
 -- the talk that a session stands for
-abbrev pub talk_of_session : Session → Talk
+abbrev pub talk_of_session : Session → SessionTalk
 talk_of_session session = talk_of session.phase
 
 -- the sequence id of a session's next packet

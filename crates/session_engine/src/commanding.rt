@@ -4,7 +4,7 @@ ghost use Rattle.auth_packets.specs.Commands.{command};
 ghost use Rattle.session_engine.specs.Standing.{Stands};
 ghost use Rattle.lg_base.specs.declared.errors.Code.TheVariants as code;
 ghost use Rattle.session_talk.specs.Logins.{commanded, commands, next_command};
-ghost use Rattle.session_talk.specs.Talk.{Says};
+ghost use Rattle.interaction.specs.Talk.{Says};
 ghost use Rattle.session_talk.specs.Texts as text;
 ghost use Rattle.std.specs.Prelude.{◌≡◌, IfOk};
 ghost use Rattle.auth_packets.specs.Faults.{malformed_at};

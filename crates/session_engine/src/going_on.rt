@@ -3,7 +3,7 @@
 ghost use Rattle.auth_packets.specs.Handshake.{response};
 ghost use Rattle.session_engine.specs.Standing.{Stands, talk_of};
 ghost use Rattle.session_talk.specs.Logins as login;
-ghost use Rattle.session_talk.specs.Talk.{Over};
+ghost use Rattle.interaction.specs.Talk.{Over};
 ghost use Rattle.session_talk.specs.Turns.{IsAsked, heard, is_answer};
 ghost use Rattle.session_talk.specs.declared.ends.SessionEnd.TheVariants as end;
 ghost use Rattle.std.specs.Prelude.{◌≡◌, IfOk, IsErr, IsTrue};
@@ -20,7 +20,7 @@ use session_talk::{Attempting, Claim, Input, SessionEnd};
 use std::alloc::Global;
 
 /// A new session begins.
-#[tactic(auto, unfolding(session_talk::specs::Turns::heard))]
+#[tactic(auto, unfolding(session_talk::specs::Turns::heard, session_talk::specs::Talk::on_start))]
 fn on_fresh(alloc: Global, id: u32, input: Input) -> Result<Step, Memory>
     ensures { IfOk result (λ step. Stands step (heard (login.session id) input)) }
 {
@@ -31,7 +31,7 @@ fn on_fresh(alloc: Global, id: u32, input: Input) -> Result<Step, Memory>
 }
 
 /// The response was read, or reading ended.
-#[tactic(auto, unfolding(session_talk::specs::Turns::heard))]
+#[tactic(auto, unfolding(session_talk::specs::Turns::heard, session_talk::specs::Logins::heard_by))]
 fn on_greeted(alloc: Global, nonce: [u8; 20], input: Input) -> Result<Step, Memory>
     ensures { IfOk result (λ step. Stands step (heard (login.greeted nonce) input)) }
 {
@@ -45,7 +45,7 @@ fn on_greeted(alloc: Global, nonce: [u8; 20], input: Input) -> Result<Step, Memo
 }
 
 /// The account was looked at.
-#[tactic(auto, unfolding(session_talk::specs::Turns::heard))]
+#[tactic(auto, unfolding(session_talk::specs::Turns::heard, session_talk::specs::Talk::on_look))]
 fn on_looking(
     alloc: Global,
     attempt: Attempting,
@@ -61,7 +61,7 @@ fn on_looking(
 }
 
 /// A fresh nonce was drawn.
-#[tactic(auto, unfolding(session_talk::specs::Turns::heard))]
+#[tactic(auto, unfolding(session_talk::specs::Turns::heard, session_talk::specs::Talk::on_drawn))]
 fn on_switching(
     alloc: Global,
     attempt: Attempting,
@@ -77,7 +77,7 @@ fn on_switching(
 }
 
 /// The answer to the fresh nonce was read, or reading ended.
-#[tactic(auto, unfolding(session_talk::specs::Turns::heard))]
+#[tactic(auto, unfolding(session_talk::specs::Turns::heard, session_talk::specs::Logins::heard_by))]
 fn on_switched(
     alloc: Global,
     attempt: Attempting,
@@ -97,7 +97,7 @@ fn on_switched(
 }
 
 /// The password was read, or reading ended.
-#[tactic(auto, unfolding(session_talk::specs::Turns::heard))]
+#[tactic(auto, unfolding(session_talk::specs::Turns::heard, session_talk::specs::Logins::heard_by))]
 fn on_clearing(alloc: Global, attempt: Attempting, look: Look, input: Input) -> Result<Step, Memory>
     ensures { IfOk result (λ step. Stands step (heard (login.clearing attempt look) input)) }
 {
@@ -111,7 +111,7 @@ fn on_clearing(alloc: Global, attempt: Attempting, look: Look, input: Input) -> 
 }
 
 /// The evidence was checked.
-#[tactic(auto, unfolding(session_talk::specs::Turns::heard, session_talk::specs::Turns::IsAsked))]
+#[tactic(auto, unfolding(session_talk::specs::Turns::heard, session_talk::specs::Talk::on_checked, session_talk::specs::Turns::IsAsked))]
 fn on_checking(
     alloc: Global,
     attempt: Attempting,
@@ -130,7 +130,7 @@ fn on_checking(
 }
 
 /// The attempt was settled, or it wasn't.
-#[tactic(auto, unfolding(session_talk::specs::Turns::heard, session_talk::specs::Turns::IsAsked))]
+#[tactic(auto, unfolding(session_talk::specs::Turns::heard, session_talk::specs::Talk::on_settled, session_talk::specs::Turns::IsAsked))]
 fn on_settling(
     alloc: Global,
     attempt: Attempting,
@@ -149,7 +149,7 @@ fn on_settling(
 }
 
 /// The account was looked at again.
-#[tactic(auto, unfolding(session_talk::specs::Turns::heard))]
+#[tactic(auto, unfolding(session_talk::specs::Turns::heard, session_talk::specs::Talk::on_look))]
 fn on_renewing(
     alloc: Global,
     attempt: Attempting,
@@ -165,7 +165,7 @@ fn on_renewing(
 }
 
 /// The attempt was settled in one step with the check.
-#[tactic(auto, unfolding(session_talk::specs::Turns::heard))]
+#[tactic(auto, unfolding(session_talk::specs::Turns::heard, session_talk::specs::Talk::on_locked))]
 fn on_locking(
     alloc: Global,
     attempt: Attempting,
@@ -181,7 +181,7 @@ fn on_locking(
 }
 
 /// A command was read, or reading ended.
-#[tactic(auto, unfolding(session_talk::specs::Turns::heard))]
+#[tactic(auto, unfolding(session_talk::specs::Turns::heard, session_talk::specs::Logins::heard_by))]
 fn on_commanding(alloc: Global, left: u32, input: Input) -> Result<Step, Memory>
     ensures { IfOk result (λ step. Stands step (heard (login.commands left) input)) }
 {

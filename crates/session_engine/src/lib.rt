@@ -21,6 +21,3 @@ pub mod steps;
 
 pub use session::Session;
 pub use session_talk::{Action, Ask, Input, SessionEnd};
-
-#[cfg(test)]
-mod tests;

@@ -3,7 +3,7 @@
 ghost use Rattle.session_engine.specs.Standing.{Stands};
 ghost use Rattle.session_talk.specs.Logins as login;
 ghost use Rattle.session_talk.specs.Logins.{attempt_of, claim_of, clear_evidence, is_blank, method_of, without_zero};
-ghost use Rattle.session_talk.specs.Talk.{Says};
+ghost use Rattle.interaction.specs.Talk.{Says};
 ghost use Rattle.session_talk.specs.Texts as text;
 ghost use Rattle.factor_chain.specs.Checking.{known_fits_of};
 ghost use Rattle.factor_chain.specs.declared.evidence_list.Evidence.TheVariants as evidence;

@@ -4,7 +4,7 @@ ghost use Rattle.session_engine.specs.Standing.{Stands};
 ghost use Rattle.session_talk.specs.Logins as login;
 ghost use Rattle.session_talk.specs.Logins.{after_stale, all_commands, clear_evidence, commands, is_blank, refusal_of, without_zero};
 ghost use Rattle.session_talk.specs.Texts.{days_of};
-ghost use Rattle.session_talk.specs.Talk.{Says};
+ghost use Rattle.interaction.specs.Talk.{Says};
 ghost use Rattle.session_talk.specs.Turns.{question, rest, said};
 ghost use Rattle.std.specs.Prelude.{◌≡◌, ◌∷◌, [], IfOk, false};
 

@@ -1,9 +1,8 @@
 //! One step of a session: what it sends, what it asks for, and where it then stands.
 
 ghost use Rattle.session_engine.specs.Standing.{Stands};
-ghost use Rattle.session_talk.specs.Logins.{broken, closing};
-ghost use Rattle.session_talk.specs.Talk.{Over};
-ghost use Rattle.session_talk.specs.Turns.{faulted};
+ghost use Rattle.session_talk.specs.Logins.{broken, closing, faulted};
+ghost use Rattle.interaction.specs.Talk.{Over};
 ghost use Rattle.std.specs.Prelude.{◌≡◌, [], ◌∷◌, IfOk};
 
 use crate::payloads::error_payload;

@@ -1,7 +1,7 @@
 -- What an answer to an ask fits.
 use Rattle.std.proofs.Common.{◌≡◌, refl, ℕ, false, IsTrue, subst, sym}
 use Rattle.packet_frame.specs.declared.packets.FrameFault.{FrameFault}
-use Rattle.session_engine.specs.Driving.{gives_back}
+use Rattle.session_probe.specs.Fitting.{gives_back}
 use Rattle.session_talk.proofs.Asking.{what_fits_is_asked}
 use Rattle.session_talk.specs.Talk.{Talk, Checks, Settles, Over}
 use Rattle.session_talk.specs.Turns.{IsAsked, IsFitting, asked, is_answer}

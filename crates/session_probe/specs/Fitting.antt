@@ -1,4 +1,4 @@
--- Inputs that tests make.
+-- Inputs that give something back.
 use Rattle.std.specs.Prelude.{Bool, true, false}
 use Rattle.session_talk.specs.declared.inputs.Input.{Input}
 use Rattle.session_talk.specs.declared.inputs.Input.TheVariants as input

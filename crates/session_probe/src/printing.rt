@@ -1,0 +1,112 @@
+//! What is printed of what a session does.
+
+use account_history::Who;
+use factor_chain::{Evidence, Evidences};
+use session_talk::{Action, Ask, SessionEnd};
+use std::io;
+
+/// Whether an action sends an error.
+pub fn is_error(action: &Action) -> bool {
+    match action.send.as_slice() {
+        [payload] => payload.as_slice().first() == Some(&0xff),
+        _ => false,
+    }
+}
+
+fn print_hex(rt: &HostRuntime, bytes: &[u8]) -> io::Result<()> {
+    let text = hex::encode(rt.alloc(), bytes)?;
+    print!(rt; " {text}")
+}
+
+fn print_evidence(rt: &HostRuntime, evidence: &Evidence) -> io::Result<()> {
+    match evidence {
+        Evidence::Native { nonce, response } => {
+            print!(rt; " native")?;
+            print_hex(rt, nonce)?;
+            print_hex(rt, response.as_slice())
+        }
+        Evidence::Fast { nonce, response } => {
+            print!(rt; " fast")?;
+            print_hex(rt, nonce)?;
+            print_hex(rt, response)
+        }
+        Evidence::Full { password } => {
+            print!(rt; " full")?;
+            print_hex(rt, password.as_slice())
+        }
+        Evidence::Empty => print!(rt; " empty"),
+        Evidence::External { label, accepted } => {
+            print!(rt; " external {accepted}")?;
+            print_hex(rt, label.as_slice())
+        }
+    }
+}
+
+fn print_evidences(rt: &HostRuntime, evidences: &Evidences) -> io::Result<()> {
+    for evidence in evidences.as_slice() {
+        print_evidence(rt, evidence)?;
+    }
+    Ok(())
+}
+
+fn print_who(rt: &HostRuntime, who: &Who) -> io::Result<()> {
+    match who {
+        Who::Login(user) => print_hex(rt, user.as_slice()),
+        _ => print!(rt; " other"),
+    }
+}
+
+fn print_end(rt: &HostRuntime, end: SessionEnd) -> io::Result<()> {
+    match end {
+        SessionEnd::Quit => print!(rt; "quit"),
+        SessionEnd::PeerClosed { cut } => print!(rt; "peer closed {cut}"),
+        SessionEnd::Refused { number } => print!(rt; "refused {number}"),
+        SessionEnd::Bad { number, at } => print!(rt; "bad {number} at {at}"),
+        SessionEnd::LinkFault => print!(rt; "link fault"),
+        SessionEnd::SessionLong => print!(rt; "session long"),
+        SessionEnd::Memory => print!(rt; "memory"),
+    }
+}
+
+fn print_ask(rt: &HostRuntime, ask: &Ask) -> io::Result<()> {
+    match ask {
+        Ask::Read { want } => print!(rt; "read {want}"),
+        Ask::Draw => print!(rt; "draw"),
+        Ask::Observe(who) => {
+            print!(rt; "observe")?;
+            print_who(rt, who)
+        }
+        Ask::Renew(who) => {
+            print!(rt; "renew")?;
+            print_who(rt, who)
+        }
+        Ask::Check { look, evidences } => {
+            print!(rt; "check {}", look.stamp)?;
+            print_evidences(rt, evidences)
+        }
+        Ask::Settle { checked, flags } => {
+            print!(rt; "settle {} {flags} {}", checked.stamp(), checked.all_fit())?;
+            print_evidences(rt, checked.evidences())
+        }
+        Ask::SettleLocked {
+            user,
+            evidences,
+            flags,
+        } => {
+            print!(rt; "settle locked {flags}")?;
+            print_hex(rt, user.as_slice())?;
+            print_evidences(rt, evidences)
+        }
+        Ask::Ended(end) => print_end(rt, *end),
+    }
+}
+
+pub fn print_action(rt: &HostRuntime, action: &Action) -> io::Result<()> {
+    print!(rt; "{}", action.first)?;
+    for payload in action.send.as_slice() {
+        print_hex(rt, payload.as_slice())?;
+    }
+    print!(rt; " ")?;
+    print_ask(rt, &action.ask)?;
+    println!(rt; "")
+}
