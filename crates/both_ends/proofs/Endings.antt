@@ -13,8 +13,8 @@ use Rattle.auth_packets.specs.Replies.{err_packet, ok_packet}
 use Rattle.auth_packets.specs.declared.replies.ErrPacket.{ErrPacket}
 use Rattle.auth_packets.specs.declared.replies.OkPacket.{OkPacket}
 use Rattle.session_talk.specs.Logins.{session}
-use Rattle.session_talk.specs.Owed.{Own}
 use Rattle.session_talk.specs.Texts.{error_payload, fast_payload, full_payload, greeting_payload, method_name, ok_payload, switch_payload}
+use Rattle.session_talk.specs.declared.inputs.Input.{Input}
 use Rattle.login_client.specs.Conversation.{ClientTalk}
 use Rattle.login_client.specs.Hearing.{IsHeard}
 use Rattle.login_client.specs.declared.claims.Claim.{Claim}
@@ -94,7 +94,7 @@ ok-sent found payload either ok = ⊎_elim {C = Opens found}
     (λ (none : IsNoOk payload). absurd (none ok)) after.2)
     either
 
-pub ok-owed : (id : ℕ) (packets : List Packet) (owns : List Own) → Each (IsEither IsNoOk OkAfter (first_reply owns)) (sent_by id packets owns)
+pub ok-owed : (id : ℕ) (packets : List Packet) (owns : List Input) → Each (IsEither IsNoOk OkAfter (first_reply owns)) (sent_by id packets owns)
 ok-owed id packets owns = both-owed IsNoOk OkAfter (session id) 0 packets owns (session-says IsNoOk OkAfter ok-kinds id)
 
 -- ## ERR
@@ -129,7 +129,7 @@ error-kinds = record {
   error = λ reply error. error-true error;
 }
 
-pub error-owed : (id : ℕ) (packets : List Packet) (owns : List Own) → Each (IsEither IsTrueError ErrorAfter (first_reply owns)) (sent_by id packets owns)
+pub error-owed : (id : ℕ) (packets : List Packet) (owns : List Input) → Each (IsEither IsTrueError ErrorAfter (first_reply owns)) (sent_by id packets owns)
 error-owed id packets owns = both-owed IsTrueError ErrorAfter (session id) 0 packets owns (session-says IsTrueError ErrorAfter error-kinds id)
 
 pub error-sent : (found : Option Reply) (payload : List ℕ) → IsEither IsTrueError ErrorAfter found payload → IsTrueError payload

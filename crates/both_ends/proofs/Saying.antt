@@ -1,5 +1,5 @@
 -- What holds of all payloads that a session sends: of those before its first attempt is settled, and of those after.
-use Rattle.std.proofs.Common.{◌≡◌, refl, subst, ◌⊎◌, inl, inr, ℕ, zero, suc, ◌<◌, Bool, true, false, List, [], ◌∷◌, ◌++◌, length, get_or, Contains, Option, Some, Result, Ok, Err, arith}
+use Rattle.std.proofs.Common.{◌≡◌, refl, subst, ◌⊎◌, inl, inr, IsTrue, ℕ, zero, suc, ◌<◌, Bool, true, false, List, [], ◌∷◌, ◌++◌, length, get_or, Contains, Option, Some, Result, Ok, Err, arith}
 use Rattle.lg_base.specs.declared.errors.Code.{Code}
 use Rattle.lg_base.specs.declared.errors.Code.TheVariants as code
 use Rattle.packet_frame.specs.Packets.{id_after}
@@ -12,43 +12,47 @@ use Rattle.factor_chain.specs.declared.evidence_list.Evidence.{Evidence}
 use Rattle.factor_chain.specs.declared.evidence_list.Evidence.TheVariants as evidence
 use Rattle.account_history.specs.declared.entries.Reply.{Reply}
 use Rattle.account_history.specs.declared.entries.Reply.TheVariants.{Opened, Sandbox, Blocked, Denied, Locked, MustChange}
+use Rattle.account_history.specs.declared.entries.Who.TheVariants.{Login}
 use Rattle.wire_form.specs.Payloads.{start}
 use Rattle.auth_packets.specs.Commands.{command}
 use Rattle.auth_packets.specs.Handshake.{response}
 use Rattle.auth_packets.specs.declared.commands.Command.{Command}
 use Rattle.auth_packets.specs.declared.commands.Command.TheVariants.{Quit, Query, Ping, Reset, ChangeUser as Change, Other, Nothing}
 use Rattle.auth_packets.specs.declared.handshake.Response.{Response}
-use Rattle.session_talk.specs.Logins.{all_commands, answering, attempt_of, caching, claim_of, claimed, clear_evidence, commanded, commands, is_blank, is_named, method_of, next_command, outcome, proved, proving, responded, session, without_zero}
-use Rattle.session_talk.specs.Owed.{Own, Drew, Saw, Late, Did, owed}
-use Rattle.session_talk.specs.Talk.{Talk, Says, Hears, Draws, Looks, Checks, Settles, SettlesLocked, Over}
-use Rattle.session_talk.specs.Texts.{error_payload, fast_payload, full_payload, greeting_payload, ok_payload, switch_payload}
 use Rattle.packet_stream.specs.Sent.{id_behind}
+use Rattle.interaction.specs.Talk.{Got, Says, Hears, Asks, Over}
+use Rattle.session_talk.specs.Logins.{all_commands, answering, attempt_of, caching, checking_or, claim_of, claimed, clear_evidence, commanded, commands, greeting, heard_by, is_blank, is_named, locking, method_of, next_command, outcome, proved, proving, renewing, responded, session, settling_or, without_zero}
+use Rattle.session_talk.specs.Owed.{Owed, owed}
+use Rattle.session_talk.specs.Talk.{SessionTalk}
+use Rattle.session_talk.specs.Texts.{error_payload, fast_payload, full_payload, greeting_payload, ok_payload, switch_payload}
+use Rattle.session_talk.specs.Turns.{takes}
 use Rattle.session_talk.specs.declared.attempts.Attempting.{Attempting}
 use Rattle.session_talk.specs.declared.attempts.Claim.{Claim}
+use Rattle.session_talk.specs.declared.inputs.Input.{Input}
+use Rattle.session_talk.specs.declared.inputs.Input.TheVariants as input
+use Rattle.session_talk.proofs.Taking.{owed_by_kind}
+use Rattle.session_talk.proofs.Words.{checked_taken, drawn_taken, locked_taken, look_taken, renewed_taken, settled_taken, start_taken, switched_to}
 use Rattle.both_ends.specs.Meeting.{Opens, first_reply, payloads_of}
 
 -- ## Talks
 
 -- all that a talk says
-abbrev pub SaysAll : (List ℕ → Type 0) → Talk → Type 0
+abbrev pub SaysAll : (List ℕ → Type 0) → SessionTalk → Type 0
 SaysAll P (Says payload t) = P payload × SaysAll P t
-SaysAll P (Hears anew k) = (payload : List ℕ) → SaysAll P (k payload)
-SaysAll P (Draws first k) = (nonce : List ℕ) → SaysAll P (k nonce)
-SaysAll P (Looks again who k) = (look : Look) → SaysAll P (k look)
-SaysAll P (Checks look evidences t) = SaysAll P t
-SaysAll P (Settles checked flags stale k) = SaysAll P stale × ((reply : Reply) → SaysAll P (k reply))
-SaysAll P (SettlesLocked user evidences flags k) = (reply : Reply) → SaysAll P (k reply)
+SaysAll P (Hears anew k) = (payload : List ℕ) → SaysAll P (k (Got payload))
+SaysAll P (Asks q k) = (given : Input) → IsTrue (takes q given) → SaysAll P (k given)
 SaysAll P (Over how) = Unit {0}
 
+-- what is shown where the answer is no reply, and what is shown where it is one
+abbrev pub ByReply : Type 0 → (Reply → Type 0) → Input → Type 0
+ByReply before after (input.Settled reply) = after reply
+ByReply before after _ = before
+
 -- all that it says before a settling, and all that it says after the reply
-abbrev pub SaysBoth : (List ℕ → Type 0) → (Reply → List ℕ → Type 0) → Talk → Type 0
+abbrev pub SaysBoth : (List ℕ → Type 0) → (Reply → List ℕ → Type 0) → SessionTalk → Type 0
 SaysBoth P Q (Says payload t) = P payload × SaysBoth P Q t
-SaysBoth P Q (Hears anew k) = (payload : List ℕ) → SaysBoth P Q (k payload)
-SaysBoth P Q (Draws first k) = (nonce : List ℕ) → SaysBoth P Q (k nonce)
-SaysBoth P Q (Looks again who k) = (look : Look) → SaysBoth P Q (k look)
-SaysBoth P Q (Checks look evidences t) = SaysBoth P Q t
-SaysBoth P Q (Settles checked flags stale k) = SaysBoth P Q stale × ((reply : Reply) → SaysAll (Q reply) (k reply))
-SaysBoth P Q (SettlesLocked user evidences flags k) = (reply : Reply) → SaysAll (Q reply) (k reply)
+SaysBoth P Q (Hears anew k) = (payload : List ℕ) → SaysBoth P Q (k (Got payload))
+SaysBoth P Q (Asks q k) = (given : Input) → IsTrue (takes q given) → ByReply (SaysBoth P Q (k given)) (λ reply. SaysAll (Q reply) (k given)) given
 SaysBoth P Q (Over how) = Unit {0}
 
 -- ## Lists of payloads
@@ -73,31 +77,26 @@ abbrev pub IsEither : (List ℕ → Type 0) → (Reply → List ℕ → Type 0) 
 IsEither P Q found payload = P payload ⊎ ((reply : Reply) × (found ≡ Some reply) × Q reply payload)
 
 pub all-owed : (P R : List ℕ → Type 0) → ((payload : List ℕ) → P payload → R payload) →
-    (t : Talk) (next : ℕ) (packets : List Packet) (owns : List Own) → SaysAll P t → Each R (payloads_of (owed next t packets owns).sent)
+    (t : SessionTalk) (next : ℕ) (packets : List Packet) (owns : List Input) → SaysAll P t → Each R (payloads_of (owed next t packets owns).sent)
 unfolding owed
 all-owed P R into (Says payload t) next packets owns says = (into payload says.0, all-owed P R into t (id_behind next payload) packets owns says.1)
-all-owed P R into (Hears anew k) next (packet ∷ packets) owns says = all-owed P R into (k packet.payload) (id_after packet.last) packets owns (says packet.payload)
-all-owed P R into (Draws first k) next packets (Drew nonce ∷ owns) says = all-owed P R into (k nonce) next packets owns (says nonce)
-all-owed P R into (Looks again who k) next packets (Saw look ∷ owns) says = all-owed P R into (k look) next packets owns (says look)
-all-owed P R into (Checks look evidences t) next packets owns says = all-owed P R into t next packets owns says
-all-owed P R into (Settles checked flags stale k) next packets (Late ∷ owns) says = all-owed P R into stale next packets owns says.0
-all-owed P R into (Settles checked flags stale k) next packets (Did reply ∷ owns) says = all-owed P R into (k reply) next packets owns (says.1 reply)
-all-owed P R into (SettlesLocked user evidences flags k) next packets (Did reply ∷ owns) says = all-owed P R into (k reply) next packets owns (says reply)
+all-owed P R into (Hears anew k) next (packet ∷ packets) owns says = all-owed P R into (k (Got packet.payload)) (id_after packet.last) packets owns (says packet.payload)
+all-owed P R into (Asks q k) next packets (given ∷ owns) says =
+    owed_by_kind next q k packets given owns (λ (o : Owed). Each R (payloads_of o.sent))
+    (λ is. all-owed P R into (k given) next packets owns (says given is)) tt
 all-owed P R into _ next _ _ says = tt
 
-pub both-owed : (P : List ℕ → Type 0) (Q : Reply → List ℕ → Type 0) (t : Talk) (next : ℕ) (packets : List Packet) (owns : List Own) → SaysBoth P Q t
+pub both-owed : (P : List ℕ → Type 0) (Q : Reply → List ℕ → Type 0) (t : SessionTalk) (next : ℕ) (packets : List Packet) (owns : List Input) → SaysBoth P Q t
     → Each (IsEither P Q (first_reply owns)) (payloads_of (owed next t packets owns).sent)
 unfolding owed
 both-owed P Q (Says payload t) next packets owns says = (inl says.0, both-owed P Q t (id_behind next payload) packets owns says.1)
-both-owed P Q (Hears anew k) next (packet ∷ packets) owns says = both-owed P Q (k packet.payload) (id_after packet.last) packets owns (says packet.payload)
-both-owed P Q (Draws first k) next packets (Drew nonce ∷ owns) says = both-owed P Q (k nonce) next packets owns (says nonce)
-both-owed P Q (Looks again who k) next packets (Saw look ∷ owns) says = both-owed P Q (k look) next packets owns (says look)
-both-owed P Q (Checks look evidences t) next packets owns says = both-owed P Q t next packets owns says
-both-owed P Q (Settles checked flags stale k) next packets (Late ∷ owns) says = both-owed P Q stale next packets owns says.0
-both-owed P Q (Settles checked flags stale k) next packets (Did reply ∷ owns) says =
-    all-owed (Q reply) (IsEither P Q (Some reply)) (λ payload is. inr (reply, refl, is)) (k reply) next packets owns (says.1 reply)
-both-owed P Q (SettlesLocked user evidences flags k) next packets (Did reply ∷ owns) says =
-    all-owed (Q reply) (IsEither P Q (Some reply)) (λ payload is. inr (reply, refl, is)) (k reply) next packets owns (says reply)
+both-owed P Q (Hears anew k) next (packet ∷ packets) owns says = both-owed P Q (k (Got packet.payload)) (id_after packet.last) packets owns (says packet.payload)
+both-owed P Q (Asks q k) next packets (input.Settled reply ∷ owns) says =
+    owed_by_kind next q k packets (input.Settled reply) owns (λ (o : Owed). Each (IsEither P Q (Some reply)) (payloads_of o.sent))
+    (λ is. all-owed (Q reply) (IsEither P Q (Some reply)) (λ payload shown. inr (reply, refl, shown)) (k (input.Settled reply)) next packets owns (says (input.Settled reply) is)) tt
+both-owed P Q (Asks q k) next packets (given ∷ owns) says =
+    owed_by_kind next q k packets given owns (λ (o : Owed). Each (IsEither P Q (first_reply owns)) (payloads_of o.sent))
+    (λ is. both-owed P Q (k given) next packets owns (says given is)) tt
 both-owed P Q _ next _ _ says = tt
 
 -- ## A session
@@ -113,7 +112,7 @@ pub record Kinds (P : List ℕ → Type 0) (Q : Reply → List ℕ → Type 0) :
   pub error : (reply : Reply) (error : Code) → Q reply (error_payload error)
 
 module _ (P : List ℕ → Type 0) (Q : Reply → List ℕ → Type 0) (kinds : Kinds P Q) where
-  commanded-says : (reply : Reply) → Opens (Some reply) → (found : Result Command ℕ) (next : Talk) → SaysAll (Q reply) next → SaysAll (Q reply) (commanded found next)
+  commanded-says : (reply : Reply) → Opens (Some reply) → (found : Result Command ℕ) (next : SessionTalk) → SaysAll (Q reply) next → SaysAll (Q reply) (commanded found next)
   commanded-says reply opens (Ok Quit) next says = tt
   commanded-says reply opens (Ok Ping) next says = (kinds.ok reply opens, says)
   commanded-says reply opens (Ok Reset) next says = (kinds.ok reply opens, says)
@@ -124,11 +123,12 @@ module _ (P : List ℕ → Type 0) (Q : Reply → List ℕ → Type 0) (kinds : 
   commanded-says reply opens (Err at) next says = (kinds.error reply code.UnknownCommand, says)
 
   command-says : (reply : Reply) → Opens (Some reply) → (left : ℕ) (payload : List ℕ) → SaysAll (Q reply) (next_command left payload)
-  unfolding next_command
+  unfolding next_command heard_by
   command-says reply opens zero payload = tt
   command-says reply opens (suc left) payload = commanded-says reply opens (command.read (start payload)) (commands left) (command-says reply opens left)
 
   outcome-says : (user : List ℕ) (reply : Reply) → SaysAll (Q reply) (outcome user reply)
+  unfolding heard_by
   outcome-says user (Opened account host) = (kinds.ok (Opened account host) refl, command-says (Opened account host) refl all_commands)
   outcome-says user (Sandbox account host) = (kinds.ok (Sandbox account host) refl, command-says (Sandbox account host) refl all_commands)
   outcome-says user (Blocked rule left) = (kinds.error (Blocked rule left) _, tt)
@@ -136,13 +136,29 @@ module _ (P : List ℕ → Type 0) (Q : Reply → List ℕ → Type 0) (kinds : 
   outcome-says user Locked = (kinds.error Locked _, tt)
   outcome-says user MustChange = (kinds.error MustChange _, tt)
 
+  -- of an answer, and of the talk after it
+  abbrev SaysOn : Input → SessionTalk → Type 0
+  SaysOn given t = ByReply (SaysBoth P Q t) (λ reply. SaysAll (Q reply) t) given
+
+  locking-says : (a : Attempting) (evidences : List Evidence) → SaysBoth P Q (locking a evidences)
+  locking-says a evidences = locked_taken SaysOn a.user evidences a.flags (outcome a.user) (outcome-says a.user)
+
+  checking-says : (stale : SessionTalk) → SaysBoth P Q stale → (a : Attempting) (look : Look) (evidences : List Evidence) →
+      SaysBoth P Q (checking_or stale a look evidences)
+  checking-says stale says a look evidences =
+      checked_taken SaysOn look evidences (settling_or stale a (record { look = look; evidences = evidences }))
+      (λ checked. settled_taken SaysOn (record { look = look; evidences = evidences }) a.flags stale (outcome a.user) (λ back. says) (outcome-says a.user))
+
+  renewing-says : (a : Attempting) (evidences : List Evidence) → SaysBoth P Q (renewing a evidences)
+  renewing-says a evidences =
+      renewed_taken SaysOn (Login a.user) (λ look. checking_or (locking a evidences) a look evidences)
+      (λ look. checking-says (locking a evidences) (locking-says a evidences) a look evidences)
+
   proved-says : (a : Attempting) (look : Look) (given : Evidence) → SaysBoth P Q (proved a look given)
-  proved-says a look given = (
-    (λ again. (outcome-says a.user, outcome-says a.user)),
-    outcome-says a.user,
-  )
+  proved-says a look given = checking-says (renewing a (given ∷ [])) (renewing-says a (given ∷ [])) a look (given ∷ [])
 
   caching-says : (a : Attempting) (look : Look) (nonce bytes : List ℕ) (known : Bool) → SaysBoth P Q (caching a look nonce bytes known)
+  unfolding heard_by
   caching-says a look nonce bytes true = (kinds.fast, proved-says a look (evidence.Fast nonce bytes))
   caching-says a look nonce bytes false = (kinds.full, λ text. proved-says a look (clear_evidence (without_zero text)))
 
@@ -154,13 +170,24 @@ module _ (P : List ℕ → Type 0) (Q : Reply → List ℕ → Type 0) (kinds : 
   answering-says a look nonce bytes true = proved-says a look evidence.Empty
   answering-says a look nonce bytes false = proving-says a look nonce bytes (method_of look)
 
+  switched-says : (a : Attempting) (look : Look) (nonce : List ℕ) → SaysBoth P Q (switched_to a look nonce)
+  unfolding heard_by
+  switched-says a look nonce = (kinds.switch (method_of look) nonce, λ bytes. answering-says a look nonce bytes (is_blank bytes))
+
   claimed-says : (a : Attempting) (claim : Claim) (look : Look) (named : Bool) → SaysBoth P Q (claimed a claim look named)
   claimed-says a claim look true = answering-says a look claim.nonce claim.auth (is_blank claim.auth)
-  claimed-says a claim look false = λ nonce. (kinds.switch (method_of look) nonce, λ bytes. answering-says a look nonce bytes (is_blank bytes))
+  claimed-says a claim look false = drawn_taken SaysOn (switched_to a look) (switched-says a look)
 
   responded-says : (nonce : List ℕ) (found : Result Response ℕ) → SaysBoth P Q (responded nonce found)
-  responded-says nonce (Ok said) = λ look. claimed-says (attempt_of said) (claim_of nonce said) look (is_named (claim_of nonce said) look)
+  responded-says nonce (Ok said) =
+      let a = attempt_of said in
+      let claim = claim_of nonce said in
+      look_taken SaysOn (Login a.user) (λ look. claimed a claim look (is_named claim look)) (λ look. claimed-says a claim look (is_named claim look))
   responded-says nonce (Err at) = (kinds.bad, tt)
 
+  greeting-says : (id : ℕ) (nonce : List ℕ) → SaysBoth P Q (greeting id nonce)
+  unfolding heard_by
+  greeting-says id nonce = (kinds.greeting id nonce, λ payload. responded-says nonce (response.read (start payload)))
+
   pub session-says : (id : ℕ) → SaysBoth P Q (session id)
-  session-says id nonce = (kinds.greeting id nonce, λ payload. responded-says nonce (response.read (start payload)))
+  session-says id = start_taken SaysOn (greeting id) (greeting-says id)

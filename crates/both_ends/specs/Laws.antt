@@ -7,10 +7,11 @@ use Rattle.packet_frame.specs.declared.packets.Packet.{Packet}
 use Rattle.account_history.specs.declared.entries.Entry.{Entry}
 use Rattle.account_history.specs.declared.entries.Reply.{Reply}
 use Rattle.session_talk.specs.Logins.{session}
-use Rattle.session_talk.specs.Owed.{Own, owed}
+use Rattle.session_talk.specs.Owed.{owed}
 use Rattle.packet_stream.specs.Sent.{Sent}
 use Rattle.session_talk.specs.Transcript.{Peer, Transcript}
 use Rattle.session_talk.specs.declared.ends.SessionEnd.{SessionEnd}
+use Rattle.session_talk.specs.declared.inputs.Input.{Input}
 use Rattle.session_talk.specs.Texts.{error_payload, fast_payload, full_payload, greeting_of, greeting_payload, method_name, ok_payload, switch_payload}
 use Rattle.login_client.specs.Conversation.{ClientTalk}
 use Rattle.login_client.specs.declared.claims.Claim.{Claim}
@@ -33,7 +34,7 @@ pub record PayloadsAreHeard : Type 0 where
 -- attempt opens.
 pub record OpenedByReply : Type 0 where
   -- for packets and answers
-  pub over_packets : (id : ℕ) (packets : List Packet) (owns : List Own) (claim : Claim) (got written : List (List ℕ)) →
+  pub over_packets : (id : ℕ) (packets : List Packet) (owns : List Input) (claim : Claim) (got written : List (List ℕ)) →
       IsBeginning got (sent_by id packets owns) → ClientTalk claim got written (Some end.Opened) → Opens (first_reply owns)
   -- and over the bytes and entries of a session
   pub over_bytes : (id : ℕ) (peer : Peer) (bytes : List ℕ) (entries : List Entry) (sent : List Sent) (how : Option SessionEnd)
@@ -42,7 +43,7 @@ pub record OpenedByReply : Type 0 where
 
 -- It was refused with a number only where it got an error with that number.
 pub record RefusedByError : Type 0 where
-  pub over_packets : (id : ℕ) (packets : List Packet) (owns : List Own) (claim : Claim) (got written : List (List ℕ)) (number : ℕ) →
+  pub over_packets : (id : ℕ) (packets : List Packet) (owns : List Input) (claim : Claim) (got written : List (List ℕ)) (number : ℕ) →
       IsBeginning got (sent_by id packets owns) → ClientTalk claim got written (Some (end.Refused number)) →
       (error : Code) × Contains got (error_payload error) × (number_of error ≡ number)
   pub over_bytes : (id : ℕ) (peer : Peer) (bytes : List ℕ) (entries : List Entry) (sent : List Sent) (how : Option SessionEnd)
@@ -53,7 +54,7 @@ pub record RefusedByError : Type 0 where
 -- A client that got all payloads that a session sends up to the end of its first attempt, and any after them, has ended
 -- by the reply to that attempt.
 pub record EndedByReply : Type 0 where
-  pub over_packets : (id : ℕ) (packets : List Packet) (owns : List Own) (reply : Reply) (claim : Claim) (more : List (List ℕ)) →
+  pub over_packets : (id : ℕ) (packets : List Packet) (owns : List Input) (reply : Reply) (claim : Claim) (more : List (List ℕ)) →
       id < 2 ^ 32 → AreNonces owns → (owed 0 (session id) packets owns).unused ≡ [] → first_reply owns ≡ Some reply →
       EndsOver claim reply (sent_by id packets owns ++ more)
   pub over_bytes : (id : ℕ) (peer : Peer) (bytes : List ℕ) (entries : List Entry) (sent : List Sent) (how : Option SessionEnd)
@@ -63,7 +64,7 @@ pub record EndedByReply : Type 0 where
 -- A client that got the first of the payloads that a session sends, with an OK or an ERR among them, has ended by the
 -- reply to the session's first attempt.
 pub record EndedAtOnce : Type 0 where
-  pub over_packets : (id : ℕ) (packets : List Packet) (owns : List Own) (reply : Reply) (claim : Claim) (got : List (List ℕ)) →
+  pub over_packets : (id : ℕ) (packets : List Packet) (owns : List Input) (reply : Reply) (claim : Claim) (got : List (List ℕ)) →
       id < 2 ^ 32 → AreNonces owns → (owed 0 (session id) packets owns).unused ≡ [] → first_reply owns ≡ Some reply →
       IsBeginning got (sent_by id packets owns) → Tells got → EndsOver claim reply got
   pub over_bytes : (id : ℕ) (peer : Peer) (bytes : List ℕ) (entries : List Entry) (sent : List Sent) (how : Option SessionEnd)
@@ -73,7 +74,7 @@ pub record EndedAtOnce : Type 0 where
 
 -- Where the first attempt has a reply, a client that was refused was refused with the number that the reply tells.
 pub record RefusedByReply : Type 0 where
-  pub over_packets : (id : ℕ) (packets : List Packet) (owns : List Own) (reply : Reply) (claim : Claim) (got written : List (List ℕ)) (number : ℕ) →
+  pub over_packets : (id : ℕ) (packets : List Packet) (owns : List Input) (reply : Reply) (claim : Claim) (got written : List (List ℕ)) (number : ℕ) →
       id < 2 ^ 32 → AreNonces owns → (owed 0 (session id) packets owns).unused ≡ [] → first_reply owns ≡ Some reply →
       IsBeginning got (sent_by id packets owns) → ClientTalk claim got written (Some (end.Refused number)) → end_told reply ≡ end.Refused number
   pub over_bytes : (id : ℕ) (peer : Peer) (bytes : List ℕ) (entries : List Entry) (sent : List Sent) (how : Option SessionEnd)

@@ -8,9 +8,11 @@ use Rattle.account_history.specs.declared.entries.Entry.TheVariants.{Attempted}
 use Rattle.account_history.specs.declared.entries.Reply.{Reply}
 use Rattle.account_history.specs.declared.entries.Reply.TheVariants.{Opened, Sandbox, Blocked, Denied, Locked, MustChange}
 use Rattle.session_talk.specs.Logins.{session}
-use Rattle.session_talk.specs.Owed.{Own, Drew, Did, owed}
+use Rattle.session_talk.specs.Owed.{owed}
 use Rattle.packet_stream.specs.Sent.{Sent}
 use Rattle.session_talk.specs.Texts.{error_payload, ok_payload}
+use Rattle.session_talk.specs.declared.inputs.Input.{Input}
+use Rattle.session_talk.specs.declared.inputs.Input.TheVariants as input
 use Rattle.login_client.specs.Conversation.{ClientTalk}
 use Rattle.login_client.specs.declared.claims.Claim.{Claim}
 use Rattle.login_client.specs.declared.ends.LoginEnd.{LoginEnd}
@@ -23,7 +25,7 @@ abbrev pub payloads_of : List Sent → List (List ℕ)
 payloads_of sent = map (λ s. s.payload) sent
 
 -- the payloads that a session of this number sends, for the packets that it got and for what its own side was answered
-abbrev pub sent_by : (id : ℕ) → List Packet → List Own → List (List ℕ)
+abbrev pub sent_by : (id : ℕ) → List Packet → List Input → List (List ℕ)
 sent_by id packets owns = payloads_of (owed 0 (session id) packets owns).sent
 
 -- some of them were got, in order and from the first one on
@@ -37,9 +39,9 @@ Tells got = Contains got ok_payload ⊎ ((error : Code) × Contains got (error_p
 -- ## The reply to the first attempt
 
 -- by what the server's side was answered
-abbrev pub first_reply : List Own → Option Reply
+abbrev pub first_reply : List Input → Option Reply
 first_reply [] = None
-first_reply (Did reply ∷ owns) = Some reply
+first_reply (input.Settled reply ∷ owns) = Some reply
 first_reply (_ ∷ owns) = first_reply owns
 
 -- by the entries that a session added to the history
@@ -67,11 +69,15 @@ end_told MustChange = end.Refused 1862
 abbrev pub EndsBy : Claim → Reply → LoginEnd → Type 0
 EndsBy claim reply how = (how ≡ end_told reply) ⊎ ((claim.local ≡ false) × (how ≡ end.WontSend reason.NotLocal))
 
--- each nonce that was drawn has 20 bytes
-abbrev pub AreNonces : List Own → Type 0
+-- a nonce that is given has 20 bytes
+abbrev pub HasWholeNonce : Input → Type 0
+HasWholeNonce (input.Start nonce) = length nonce ≡ 20
+HasWholeNonce (input.Drawn nonce) = length nonce ≡ 20
+HasWholeNonce _ = Unit {0}
+
+abbrev pub AreNonces : List Input → Type 0
 AreNonces [] = Unit {0}
-AreNonces (Drew nonce ∷ owns) = (length nonce ≡ 20) × AreNonces owns
-AreNonces (_ ∷ owns) = AreNonces owns
+AreNonces (given ∷ owns) = HasWholeNonce given × AreNonces owns
 
 -- A client that gets these payloads, from a session whose first attempt got this reply, ends by it: it has a talk over
 -- them, and each such talk ends so. On the server's machine it ends as the reply tells.

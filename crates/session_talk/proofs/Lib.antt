@@ -1,4 +1,5 @@
 pub mod Words
+pub mod Taking
 pub mod Reading
 pub mod GoingOn
 pub mod OverBytes

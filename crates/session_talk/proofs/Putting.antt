@@ -16,14 +16,13 @@ use Rattle.auth_packets.specs.declared.commands.Command.TheVariants.{Quit, Query
 use Rattle.auth_packets.specs.declared.handshake.Response.{Response}
 use Rattle.interaction.specs.Talk.{Got, Says, Hears, Asks, Over}
 use Rattle.session_talk.specs.Given.{end_in}
-use Rattle.session_talk.specs.Logins.{all_commands, answered, answering, attempt_of, caching, checking_or, claim_of, claimed, clear_evidence, commanded, commands, greeting, heard_by, is_blank, is_named, locking, method_of, next_command, outcome, proved, proving, refusal_of, renewing, responded, session, settling_or, switched, without_zero}
+use Rattle.session_talk.specs.Logins.{all_commands, answered, answering, attempt_of, caching, checking_or, claim_of, claimed, clear_evidence, commanded, commands, greeting, heard_by, is_blank, is_named, locking, method_of, next_command, outcome, proved, proving, refusal_of, renewing, responded, session, settling_or, without_zero}
 use Rattle.session_talk.specs.Talk.{SessionTalk}
-use Rattle.session_talk.specs.Texts.{switch_payload}
 use Rattle.session_talk.specs.Turns.{ask_of, rest}
 use Rattle.session_talk.specs.declared.attempts.Attempting.{Attempting}
 use Rattle.session_talk.specs.declared.attempts.Claim.{Claim}
 use Rattle.session_talk.specs.declared.inputs.Input.{Input}
-use Rattle.session_talk.proofs.Words.{checked_all, drawn_all, locked_all, look_all, settled_all, start_all}
+use Rattle.session_talk.proofs.Words.{checked_all, drawn_all, locked_all, look_all, settled_all, start_all, switched_to}
 
 -- whatever is read and answered, no question is the ask that tells an end
 abbrev pub PutsNoEnd : SessionTalk → Type 0
@@ -92,10 +91,6 @@ proving_puts a look nonce bytes CachingSha2 = caching_puts a look nonce bytes (k
 answering_puts : (a : Attempting) (look : Look) (nonce bytes : List ℕ) (blank : Bool) → PutsNoEnd (answering a look nonce bytes blank)
 answering_puts a look nonce bytes true = proved_puts a look evidence.Empty
 answering_puts a look nonce bytes false = proving_puts a look nonce bytes (method_of look)
-
--- a client that is told to switch
-abbrev switched_to : Attempting → Look → (nonce : List ℕ) → SessionTalk
-switched_to a look nonce = Says (switch_payload (method_of look) nonce) (switched a look nonce)
 
 switched_puts : (a : Attempting) (look : Look) (nonce : List ℕ) → PutsNoEnd (switched_to a look nonce)
 unfolding heard_by

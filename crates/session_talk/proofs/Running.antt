@@ -1,16 +1,17 @@
 -- What a session says over a list of inputs is what is owed for them.
-use Rattle.std.proofs.Common.{◌≡◌, refl, ap, sym, ◌∙◌, ℕ, Bool, true, if◌then◌else◌, List, [], ◌∷◌, ◌++◌, append_assoc}
+use Rattle.std.proofs.Common.{◌≡◌, refl, ap, sym, ◌∙◌, ℕ, List, [], ◌∷◌, ◌++◌, append_assoc}
 use Rattle.packet_frame.specs.declared.packets.Packet.{Packet}
 use Rattle.packet_stream.specs.Sent.{Sent, id_behind, id_behind_all, sent_from}
 use Rattle.interaction.specs.Talk.{Says, Hears, Asks, Over}
 use Rattle.session_talk.specs.declared.inputs.Input.{Input}
 use Rattle.session_talk.specs.declared.inputs.Input.TheVariants as input
 use Rattle.session_talk.specs.Laws.{RunsAreOwed}
-use Rattle.session_talk.specs.Owed.{Owed, after_all_sent, after_sent, owed, waits}
+use Rattle.session_talk.specs.Owed.{Owed, after_all_sent, after_sent, owed}
 use Rattle.session_talk.specs.Runs.{AllAnswer, Standing, owns_in, packets_in, sent_on, spoken, stands_after, stands_on}
-use Rattle.session_talk.specs.Talk.{Question, SessionTalk}
-use Rattle.session_talk.specs.Turns.{first_id, heard, is_answer, rest, said, takes}
+use Rattle.session_talk.specs.Talk.{SessionTalk}
+use Rattle.session_talk.specs.Turns.{first_id, heard, is_answer, rest, said}
 use Rattle.session_talk.proofs.Asking.{own_answer, untrue}
+use Rattle.session_talk.proofs.Taking.{taken_owed}
 
 -- what a talk says first is owed first
 said_owed : (next : ℕ) (t : SessionTalk) (packets : List Packet) (owns : List Input) →
@@ -41,13 +42,6 @@ abbrev Run : (next : ℕ) → SessionTalk → List Input → Type 0
 Run next t inputs = AllAnswer (at next t) inputs →
     owed next t (packets_in inputs) (owns_in inputs)
     ≡ after_all_sent (spoken (at next t) inputs) (owed (stands_after (at next t) inputs).next (stands_after (at next t) inputs).at [] [])
-
--- a right answer is taken
-taken_owed : (next : ℕ) (q : Question) (k : Input → SessionTalk) (given : Input) (packets : List Packet) (owns : List Input) → takes q given ≡ true →
-    owed next (Asks q k) packets (given ∷ owns) ≡ owed next (k given) packets owns
-unfolding owed
-taken_owed next q k given packets owns is =
-    ap (λ (b : Bool). if b then owed next (k given) packets owns else waits next (Asks q k) packets (given ∷ owns)) is
 
 run : (inputs : List Input) (next : ℕ) (t : SessionTalk) → Run next t inputs
 unfolding owed heard is_answer
