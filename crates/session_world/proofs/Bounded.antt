@@ -1,123 +1,37 @@
 -- A session reads a packet or rests after at most eight turns, wherever it stands.
-use Rattle.std.proofs.Common.{◌≡◌, ◌<◌, refl, sym, subst, ℕ, zero, suc, ◌-◌, Bool, true, false, IsTrue, List, [], ◌∷◌, Option, Some, None, Result, Ok, Err, arith}
-use Rattle.lg_base.specs.declared.errors.Code.{Code}
+use Rattle.std.proofs.Common.{◌≡◌, ◌<◌, sym, refl, subst, ℕ, zero, suc, ◌-◌, Bool, true, false, IsTrue, List, arith}
 use Rattle.factor_chain.specs.CheckedOf.{CheckedOf}
-use Rattle.factor_chain.specs.Checking.{known_fits_of}
-use Rattle.factor_chain.specs.declared.credentials.Look.{Look}
-use Rattle.factor_chain.specs.declared.credentials.Method.{Method}
-use Rattle.factor_chain.specs.declared.credentials.Method.TheVariants.{Native, CachingSha2}
 use Rattle.factor_chain.specs.declared.evidence_list.Evidence.{Evidence}
-use Rattle.factor_chain.specs.declared.evidence_list.Evidence.TheVariants as evidence
-use Rattle.wire_form.specs.Payloads.{start}
-use Rattle.auth_packets.specs.Commands.{command}
-use Rattle.auth_packets.specs.declared.commands.Command.{Command}
-use Rattle.auth_packets.specs.declared.commands.Command.TheVariants.{Quit, Query, Ping, Reset, ChangeUser as Change, Other, Nothing}
 use Rattle.packet_frame.specs.declared.packets.FrameFault.{FrameFault}
 use Rattle.packet_frame.specs.declared.packets.FrameFault.TheVariants.{TooLarge, OutOfOrder, Memory as NoMemory}
+use Rattle.interaction.specs.Talk.{Says, Hears, Asks, Over}
 use Rattle.session_engine.specs.Standing.{talk_of, talk_of_session}
 use Rattle.session_engine.specs.declared.phases.Phase.{Phase}
 use Rattle.session_engine.specs.declared.phases.Phase.TheVariants as phase
 use Rattle.session_engine.specs.declared.session.Session.{Session}
-use Rattle.session_talk.proofs.Bounding.{sessions_are_bounded}
-use Rattle.session_talk.proofs.Words.{checked_all, drawn_all, locked_all, look_all, settled_all}
 use Rattle.session_talk.specs.Bounds.{Within}
-use Rattle.session_talk.specs.Logins.{after_stale, all_commands, answered, answering, caching, checking_or, claimed, clear_evidence, commanded, commands, faulted, heard_by, is_blank, is_named, locking, method_of, next_command, outcome, proved, proving, refusal_of, renewing, settling_or, switched, switching, without_zero}
-use Rattle.interaction.specs.Talk.{Says, Hears, Asks, Over}
+use Rattle.session_talk.specs.Logins.{after_stale, claimed, faulted, heard_by, is_named, outcome, refusal_of, settling_or}
 use Rattle.session_talk.specs.Talk.{SessionTalk, on_start}
-use Rattle.session_talk.specs.Texts.{switch_payload}
 use Rattle.session_talk.specs.Turns.{heard, is_answer, rest}
 use Rattle.session_talk.specs.declared.attempts.Attempting.{Attempting}
-use Rattle.session_talk.specs.declared.attempts.Claim.{Claim}
 use Rattle.session_talk.specs.declared.ends.SessionEnd.{SessionEnd}
 use Rattle.session_talk.specs.declared.ends.SessionEnd.TheVariants as end
 use Rattle.session_talk.specs.declared.inputs.Input.{Input}
 use Rattle.session_talk.specs.declared.inputs.Input.TheVariants as input
+use Rattle.session_talk.proofs.Bounding.{answered_within, checking_within, claimed_within, clear_within, command_within, locking_within, renewing_within, sessions_are_bounded, switched_within}
+use Rattle.session_talk.proofs.Words.{drawn_all, look_all, settled_all, switched_to}
 use Rattle.session_world.specs.Lasting.{Lasts, Steps, StepsOn}
 
 -- ## What is left of a session
 
-commanded_within : (found : Result Command ℕ) (next : SessionTalk) → Within 7 next → Within 7 (commanded found next)
-commanded_within (Ok Quit) next within = tt
-commanded_within (Ok Ping) next within = within
-commanded_within (Ok Reset) next within = within
-commanded_within (Ok (Query text)) next within = within
-commanded_within (Ok (Change v)) next within = within
-commanded_within (Ok (Other first)) next within = within
-commanded_within (Ok Nothing) next within = within
-commanded_within (Err at) next within = within
-
-command_within : (left : ℕ) (payload : List ℕ) → Within 7 (next_command left payload)
-unfolding next_command heard_by
-command_within zero payload = tt
-command_within (suc left) payload = commanded_within (command.read (start payload)) (commands left) (command_within left)
-
-answered_within : (n : ℕ) (o : Option Code) → Within n (answered o)
-unfolding heard_by
-answered_within n None = command_within all_commands
-answered_within n (Some error) = tt
-
 -- settlings, and what a stale answer leads to
-
-locking_within : (n : ℕ) (a : Attempting) (evidences : List Evidence) → Within (suc n) (locking a evidences)
-locking_within n a evidences = locked_all (Within n) tt (outcome a.user) (λ reply. answered_within n (refusal_of a.user reply))
 
 settling_within : (n : ℕ) (stale : SessionTalk) → Within n stale → (a : Attempting) (checked : CheckedOf) → Within (suc n) (settling_or stale a checked)
 settling_within n stale within a checked = settled_all (Within n) tt stale (outcome a.user) within (λ reply. answered_within n (refusal_of a.user reply))
 
-checking_within : (n : ℕ) (stale : SessionTalk) → Within n stale → (a : Attempting) (look : Look) (evidences : List Evidence) →
-    Within (suc (suc n)) (checking_or stale a look evidences)
-checking_within n stale within a look evidences =
-    let checked : CheckedOf = record { look = look; evidences = evidences } in
-    checked_all (Within (suc n)) tt (settling_or stale a checked) (settling_within n stale within a checked)
-
-renewing_within : (n : ℕ) (a : Attempting) (evidences : List Evidence) → Within (suc (suc (suc (suc n)))) (renewing a evidences)
-renewing_within n a evidences =
-    look_all (Within (suc (suc (suc n)))) tt (λ look. checking_or (locking a evidences) a look evidences)
-    (λ look. checking_within (suc n) (locking a evidences) (locking_within n a evidences) a look evidences)
-
 stale_within : (n : ℕ) (again : Bool) (a : Attempting) (evidences : List Evidence) → Within (suc (suc (suc (suc n)))) (after_stale again a evidences)
 stale_within n false a evidences = renewing_within n a evidences
 stale_within n true a evidences = locking_within (suc (suc (suc n))) a evidences
-
-abbrev six_more : ℕ → ℕ
-six_more n = suc (suc (suc (suc (suc (suc n)))))
-
-proved_within : (n : ℕ) (a : Attempting) (look : Look) (given : Evidence) → Within (six_more n) (proved a look given)
-proved_within n a look given =
-    checking_within (suc (suc (suc (suc n)))) (renewing a (given ∷ [])) (renewing_within n a (given ∷ [])) a look (given ∷ [])
-
--- answers to nonces
-
-clear_within : (a : Attempting) (look : Look) (text : List ℕ) → Within 7 (proved a look (clear_evidence (without_zero text)))
-clear_within a look text = proved_within 1 a look (clear_evidence (without_zero text))
-
-caching_within : (n : ℕ) (a : Attempting) (look : Look) (nonce bytes : List ℕ) (known : Bool) → Within (six_more n) (caching a look nonce bytes known)
-unfolding heard_by
-caching_within n a look nonce bytes true = proved_within n a look (evidence.Fast nonce bytes)
-caching_within n a look nonce bytes false = clear_within a look
-
-proving_within : (n : ℕ) (a : Attempting) (look : Look) (nonce bytes : List ℕ) (method : Method) → Within (six_more n) (proving a look nonce bytes method)
-proving_within n a look nonce bytes Native = proved_within n a look (evidence.Native nonce bytes)
-proving_within n a look nonce bytes CachingSha2 = caching_within n a look nonce bytes (known_fits_of look.in_force nonce bytes)
-
-answering_within : (n : ℕ) (a : Attempting) (look : Look) (nonce bytes : List ℕ) (blank : Bool) → Within (six_more n) (answering a look nonce bytes blank)
-answering_within n a look nonce bytes true = proved_within n a look evidence.Empty
-answering_within n a look nonce bytes false = proving_within n a look nonce bytes (method_of look)
-
--- a client that is told to switch
-abbrev switched_to : Attempting → Look → (nonce : List ℕ) → SessionTalk
-switched_to a look nonce = Says (switch_payload (method_of look) nonce) (switched a look nonce)
-
-switched_within : (n : ℕ) (a : Attempting) (look : Look) (nonce : List ℕ) → Within n (switched_to a look nonce)
-unfolding heard_by
-switched_within n a look nonce = λ bytes. answering_within 1 a look nonce bytes (is_blank bytes)
-
-switching_within : (n : ℕ) (a : Attempting) (look : Look) → Within (suc n) (switching a look)
-switching_within n a look = drawn_all (Within n) tt (switched_to a look) (switched_within n a look)
-
-claimed_within : (a : Attempting) (claim : Claim) (look : Look) (named : Bool) → Within 6 (claimed a claim look named)
-claimed_within a claim look true = answering_within 0 a look claim.nonce claim.auth (is_blank claim.auth)
-claimed_within a claim look false = switching_within 5 a look
 
 phase_lasts : (p : Phase) → Lasts 8 (talk_of p)
 unfolding talk_of on_start heard_by
@@ -125,8 +39,8 @@ phase_lasts (phase.Fresh id) = sessions_are_bounded id
 phase_lasts (phase.Greeted nonce) = sessions_are_bounded 0 (input.Start nonce)
 phase_lasts (phase.Looking a claim) =
     look_all (Within 6) tt (λ look. claimed a claim look (is_named claim look)) (λ look. claimed_within a claim look (is_named claim look))
-phase_lasts (phase.Switching a look) = switching_within 6 a look
-phase_lasts (phase.Switched a look nonce) = switched_within 7 a look nonce
+phase_lasts (phase.Switching a look) = drawn_all (Within 6) tt (switched_to a look) (switched_within a look)
+phase_lasts (phase.Switched a look nonce) = switched_within a look nonce
 phase_lasts (phase.Clearing a look) = clear_within a look
 phase_lasts (phase.Checking a again look evidences) = checking_within 5 (after_stale again a evidences.value) (stale_within 1 again a evidences.value) a look.value evidences.value
 phase_lasts (phase.Settling a again checked) =
