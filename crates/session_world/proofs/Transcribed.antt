@@ -1,4 +1,4 @@
--- A session that goes on sends and enters what is owed over its bytes and what its own side is answered.
+-- A session that goes on sends and enters what is owed over its bytes and what its own side is answer_goes.
 use Rattle.std.proofs.Common.{◌≡◌, refl, ap, sym, ◌∙◌, subst, IsTrue, ℕ, ◌+◌, ◌⊎◌, inl, inr, Bool, if◌then◌else◌, List, [], ◌∷◌, ◌++◌, length, Option, Some, None, option_to_list}
 use Rattle.packet_frame.specs.Front.{Front, Whole, Part, Fault}
 use Rattle.packet_frame.specs.Packets.{id_after}
@@ -46,7 +46,7 @@ abbrev pub IsOver : SessionTalk → Type 0
 IsOver (Over how) = Unit {0}
 IsOver t = ⊥
 
--- by the packets that are read and what is owed, for all that its own side may be answered
+-- by the packets that are read and what is owed, for all that its own side may be answer_goes
 pub record Goes (peer : Peer) (t : SessionTalk) (read : List Input → List Packet) (owed : List Input → Wired) (g : Gone) : Type 0 where
   pub owns : List Input
   pub nonces : AreNonces owns
@@ -154,11 +154,11 @@ module _ (peer : Peer) (next : ℕ) (q : Question) (k : Input → SessionTalk) (
   unfolding wired
   taken_wired owns = ap (λ (b : Bool). if b then wired next (k given) stream owns else wiring.stops next (Asks q k) stream (given ∷ owns)) is
 
-  answered : (added : List Entry) (lines : List Line) (g : Gone) → HasWholeNonce given →
+  answer_goes : (added : List Entry) (lines : List Line) (g : Gone) → HasWholeNonce given →
       IsFitting q given → Adds q given added → entries_in lines ≡ added ++ entries_in g.lines → sends_in lines ≡ sends_in g.lines → ends_in lines ≡ ends_in g.lines →
       GoesAsOwed peer next (k given) stream g → GoesAsOwed peer next (Asks q k) stream (record g { lines = lines })
   unfolding Enters
-  answered added lines g whole fits adds joined sends ends x = record {
+  answer_goes added lines g whole fits adds joined sends ends x = record {
     owns = given ∷ x.owns;
     nonces = (whole, x.nonces);
     entered = (
@@ -175,11 +175,11 @@ module _ (peer : Peer) (next : ℕ) (q : Question) (k : Input → SessionTalk) (
     stands = subst (λ (w : Wired). IsLive w g.next g.at g.unread ⊎ IsOver g.at) (sym (taken_wired x.owns)) x.stands;
   }
 
--- a question that isn't answered yet
-unanswered : (peer : Peer) (c : Common) (next : ℕ) (q : Question) (k : Input → SessionTalk) (stream : Stream) →
+-- a question that isn't answer_goes yet
+asked_waits : (peer : Peer) (c : Common) (next : ℕ) (q : Question) (k : Input → SessionTalk) (stream : Stream) →
     GoesAsOwed peer next (Asks q k) stream (stops c next (Asks q k) stream)
 unfolding wired read_of Enters
-unanswered peer c next q k stream = waiting peer c next (Asks q k) stream refl (refl, refl) (asks_wait peer q k stream)
+asked_waits peer c next q k stream = waiting peer c next (Asks q k) stream refl (refl, refl) (asks_wait peer q k stream)
 
 pub goes_as_owed : (peer : Peer) (calls : Calls) (c : Common) (next : ℕ) (t : SessionTalk) (stream : Stream) →
     GoesAsOwed peer next t stream (going peer calls c next t stream)
@@ -201,33 +201,33 @@ goes_as_owed peer calls c next (Hears anew k) stream =
 goes_as_owed peer calls c next (Asks Begins k) stream =
     let given : Input = input.Start (drawn_nonce (c.drawn + 1)) in
     let g : Gone = going peer calls (with_draw c) next (k given) stream in
-    answered peer next Begins k stream given refl [] g.lines g (nonce_long (c.drawn + 1)) tt refl refl refl refl
+    answer_goes peer next Begins k stream given refl [] g.lines g (nonce_long (c.drawn + 1)) tt refl refl refl refl
     (goes_as_owed peer calls (with_draw c) next (k given) stream)
 goes_as_owed peer calls c next (Asks (Own ask.Draw) k) stream =
     let given : Input = input.Drawn (drawn_nonce (c.drawn + 1)) in
     let g : Gone = going peer calls (with_draw c) next (k given) stream in
-    answered peer next (Own ask.Draw) k stream given refl [] g.lines g (nonce_long (c.drawn + 1)) tt refl refl refl refl
+    answer_goes peer next (Own ask.Draw) k stream given refl [] g.lines g (nonce_long (c.drawn + 1)) tt refl refl refl refl
     (goes_as_owed peer calls (with_draw c) next (k given) stream)
 goes_as_owed peer calls c next (Asks (Own (ask.Observe who)) k) stream =
     let given : Input = input.Looked (seen c who) in
     let entry : Entry = Observed who (seen c who) in
     let g : Gone = going peer (spent calls) (with_entry c entry) next (k given) stream in
     if_allowed_is (GoesAsOwed peer next (Asks (Own (ask.Observe who)) k) stream) calls _ _
-    (answered peer next (Own (ask.Observe who)) k stream given refl (entry ∷ []) (line.Adds (next_number c) entry ∷ g.lines) g tt tt refl refl refl refl
+    (answer_goes peer next (Own (ask.Observe who)) k stream given refl (entry ∷ []) (line.Adds (next_number c) entry ∷ g.lines) g tt tt refl refl refl refl
     (goes_as_owed peer (spent calls) (with_entry c entry) next (k given) stream))
-    (unanswered peer c next (Own (ask.Observe who)) k stream)
+    (asked_waits peer c next (Own (ask.Observe who)) k stream)
 goes_as_owed peer calls c next (Asks (Own (ask.Renew who)) k) stream =
     let given : Input = input.Looked (seen c who) in
     let entry : Entry = Observed who (seen c who) in
     let g : Gone = going peer (spent calls) (with_entry c entry) next (k given) stream in
     if_allowed_is (GoesAsOwed peer next (Asks (Own (ask.Renew who)) k) stream) calls _ _
-    (answered peer next (Own (ask.Renew who)) k stream given refl (entry ∷ []) (line.Adds (next_number c) entry ∷ g.lines) g tt tt refl refl refl refl
+    (answer_goes peer next (Own (ask.Renew who)) k stream given refl (entry ∷ []) (line.Adds (next_number c) entry ∷ g.lines) g tt tt refl refl refl refl
     (goes_as_owed peer (spent calls) (with_entry c entry) next (k given) stream))
-    (unanswered peer c next (Own (ask.Renew who)) k stream)
+    (asked_waits peer c next (Own (ask.Renew who)) k stream)
 goes_as_owed peer calls c next (Asks (Own (ask.Check look evidences)) k) stream =
     let given : Input = input.Checked (record { look = look; evidences = evidences }) in
     let g : Gone = going peer calls c next (k given) stream in
-    answered peer next (Own (ask.Check look evidences)) k stream given refl [] g.lines g tt refl refl refl refl refl
+    answer_goes peer next (Own (ask.Check look evidences)) k stream given refl [] g.lines g tt refl refl refl refl refl
     (goes_as_owed peer calls c next (k given) stream)
 goes_as_owed peer calls c next (Asks (Own (ask.Settle checked flags)) k) stream =
     let late : Input = input.Stale checked.evidences in
@@ -237,19 +237,19 @@ goes_as_owed peer calls c next (Asks (Own (ask.Settle checked flags)) k) stream 
     let h : Gone = going peer (spent calls) (with_entry c entry) next (k given) stream in
     if_allowed_is (GoesAsOwed peer next (Asks (Own (ask.Settle checked flags)) k) stream) calls _ _
     (if_is (GoesAsOwed peer next (Asks (Own (ask.Settle checked flags)) k) stream) (is_stale c checked.look) _ _
-    (answered peer next (Own (ask.Settle checked flags)) k stream late refl [] (line.Stale ∷ g.lines) g tt refl refl refl refl refl
+    (answer_goes peer next (Own (ask.Settle checked flags)) k stream late refl [] (line.Stale ∷ g.lines) g tt refl refl refl refl refl
     (goes_as_owed peer (spent calls) c next (k late) stream))
-    (answered peer next (Own (ask.Settle checked flags)) k stream given refl (entry ∷ []) (line.Adds (next_number c) entry ∷ h.lines) h tt
+    (answer_goes peer next (Own (ask.Settle checked flags)) k stream given refl (entry ∷ []) (line.Adds (next_number c) entry ∷ h.lines) h tt
     tt (c.clock, refl) refl refl refl (goes_as_owed peer (spent calls) (with_entry c entry) next (k given) stream)))
-    (unanswered peer c next (Own (ask.Settle checked flags)) k stream)
+    (asked_waits peer c next (Own (ask.Settle checked flags)) k stream)
 goes_as_owed peer calls c next (Asks (Own (ask.SettleLocked user evidences flags)) k) stream =
     let given : Input = input.Settled (replied c user evidences flags) in
     let entry : Entry = attempted c user evidences flags in
     let g : Gone = going peer (spent calls) (with_entry c entry) next (k given) stream in
     if_allowed_is (GoesAsOwed peer next (Asks (Own (ask.SettleLocked user evidences flags)) k) stream) calls _ _
-    (answered peer next (Own (ask.SettleLocked user evidences flags)) k stream given refl (entry ∷ []) (line.Adds (next_number c) entry ∷ g.lines) g
+    (answer_goes peer next (Own (ask.SettleLocked user evidences flags)) k stream given refl (entry ∷ []) (line.Adds (next_number c) entry ∷ g.lines) g
     tt tt (c.clock, refl) refl refl refl (goes_as_owed peer (spent calls) (with_entry c entry) next (k given) stream))
-    (unanswered peer c next (Own (ask.SettleLocked user evidences flags)) k stream)
-goes_as_owed peer calls c next (Asks q k) stream = unanswered peer c next q k stream
+    (asked_waits peer c next (Own (ask.SettleLocked user evidences flags)) k stream)
+goes_as_owed peer calls c next (Asks q k) stream = asked_waits peer c next q k stream
 goes_as_owed peer calls c next (Over how) stream =
     record { owns = []; nonces = tt; entered = (refl, refl); sends = refl; ends = ends_over peer how stream; stands = inr tt }

@@ -73,26 +73,26 @@ adding c entry goes_on = after_line (Adds (next_number c) entry) (goes_on (with_
 -- How a question is answered, and how the session goes on with the answer, by the calls that are left and by what is
 -- common from then on: a draw and a check are answered at once, and a call of the account store where it is allowed. Else
 -- the session waits.
-abbrev pub answering : Calls → Common → Question → (Calls → Common → Input → Gone) → (waits : Gone) → Gone
-answering calls c Begins goes_on waits = goes_on calls (with_draw c) (input.Start (drawn_nonce (c.drawn + 1)))
-answering calls c (Own ask.Draw) goes_on waits = goes_on calls (with_draw c) (input.Drawn (drawn_nonce (c.drawn + 1)))
-answering calls c (Own (ask.Observe who)) goes_on waits =
+abbrev pub by_question : Calls → Common → Question → (Calls → Common → Input → Gone) → (waits : Gone) → Gone
+by_question calls c Begins goes_on waits = goes_on calls (with_draw c) (input.Start (drawn_nonce (c.drawn + 1)))
+by_question calls c (Own ask.Draw) goes_on waits = goes_on calls (with_draw c) (input.Drawn (drawn_nonce (c.drawn + 1)))
+by_question calls c (Own (ask.Observe who)) goes_on waits =
     if_allowed calls (adding c (Observed who (seen c who)) (λ d. goes_on (spent calls) d (input.Looked (seen c who)))) waits
-answering calls c (Own (ask.Renew who)) goes_on waits =
+by_question calls c (Own (ask.Renew who)) goes_on waits =
     if_allowed calls (adding c (Observed who (seen c who)) (λ d. goes_on (spent calls) d (input.Looked (seen c who)))) waits
-answering calls c (Own (ask.Check look evidences)) goes_on waits =
+by_question calls c (Own (ask.Check look evidences)) goes_on waits =
     goes_on calls c (input.Checked (record { look = look; evidences = evidences }))
-answering calls c (Own (ask.Settle checked flags)) goes_on waits =
+by_question calls c (Own (ask.Settle checked flags)) goes_on waits =
     if_allowed calls
     (if is_stale c checked.look then after_line Stale (goes_on (spent calls) c (input.Stale checked.evidences))
     else adding c (attempted c checked.look.user checked.evidences flags)
     (λ d. goes_on (spent calls) d (input.Settled (replied c checked.look.user checked.evidences flags))))
     waits
-answering calls c (Own (ask.SettleLocked user evidences flags)) goes_on waits =
+by_question calls c (Own (ask.SettleLocked user evidences flags)) goes_on waits =
     if_allowed calls
     (adding c (attempted c user evidences flags) (λ d. goes_on (spent calls) d (input.Settled (replied c user evidences flags))))
     waits
-answering calls c _ goes_on waits = waits
+by_question calls c _ goes_on waits = waits
 
 unfoldable pub going : Peer → Calls → Common → (next : ℕ) → SessionTalk → Stream → Gone
 going peer calls c next (Says payload t) stream =
@@ -103,5 +103,5 @@ going peer calls c next (Hears anew k) stream =
     (λ fault. closing c (id_after (wanted anew next)) (faulted fault) stream)
     (front_of (wanted anew next) stream)
 going peer calls c next (Asks q k) stream =
-    answering calls c q (λ more d given. going peer more d next (k given) stream) (stops c next (Asks q k) stream)
+    by_question calls c q (λ more d given. going peer more d next (k given) stream) (stops c next (Asks q k) stream)
 going peer calls c next (Over how) stream = over c next how stream
