@@ -1,4 +1,4 @@
--- A session that goes on sends and enters what is owed over its bytes and what its own side is answer_goes.
+-- A session that goes on sends and enters what is owed over its bytes and what its own side is answered.
 use Rattle.std.proofs.Common.{◌≡◌, refl, ap, sym, ◌∙◌, subst, IsTrue, ℕ, ◌+◌, ◌⊎◌, inl, inr, Bool, if◌then◌else◌, List, [], ◌∷◌, ◌++◌, length, Option, Some, None, option_to_list}
 use Rattle.packet_frame.specs.Front.{Front, Whole, Part, Fault}
 use Rattle.packet_frame.specs.Packets.{id_after}
@@ -46,7 +46,7 @@ abbrev pub IsOver : SessionTalk → Type 0
 IsOver (Over how) = Unit {0}
 IsOver t = ⊥
 
--- by the packets that are read and what is owed, for all that its own side may be answer_goes
+-- by the packets that are read and what is owed, for all that its own side may be answered
 pub record Goes (peer : Peer) (t : SessionTalk) (read : List Input → List Packet) (owed : List Input → Wired) (g : Gone) : Type 0 where
   pub owns : List Input
   pub nonces : AreNonces owns
@@ -175,11 +175,11 @@ module _ (peer : Peer) (next : ℕ) (q : Question) (k : Input → SessionTalk) (
     stands = subst (λ (w : Wired). IsLive w g.next g.at g.unread ⊎ IsOver g.at) (sym (taken_wired x.owns)) x.stands;
   }
 
--- a question that isn't answer_goes yet
-asked_waits : (peer : Peer) (c : Common) (next : ℕ) (q : Question) (k : Input → SessionTalk) (stream : Stream) →
+-- a question that isn't answered yet
+question_waits : (peer : Peer) (c : Common) (next : ℕ) (q : Question) (k : Input → SessionTalk) (stream : Stream) →
     GoesAsOwed peer next (Asks q k) stream (stops c next (Asks q k) stream)
 unfolding wired read_of Enters
-asked_waits peer c next q k stream = waiting peer c next (Asks q k) stream refl (refl, refl) (asks_wait peer q k stream)
+question_waits peer c next q k stream = waiting peer c next (Asks q k) stream refl (refl, refl) (asks_wait peer q k stream)
 
 pub goes_as_owed : (peer : Peer) (calls : Calls) (c : Common) (next : ℕ) (t : SessionTalk) (stream : Stream) →
     GoesAsOwed peer next t stream (going peer calls c next t stream)
@@ -215,7 +215,7 @@ goes_as_owed peer calls c next (Asks (Own (ask.Observe who)) k) stream =
     if_allowed_is (GoesAsOwed peer next (Asks (Own (ask.Observe who)) k) stream) calls _ _
     (answer_goes peer next (Own (ask.Observe who)) k stream given refl (entry ∷ []) (line.Adds (next_number c) entry ∷ g.lines) g tt tt refl refl refl refl
     (goes_as_owed peer (spent calls) (with_entry c entry) next (k given) stream))
-    (asked_waits peer c next (Own (ask.Observe who)) k stream)
+    (question_waits peer c next (Own (ask.Observe who)) k stream)
 goes_as_owed peer calls c next (Asks (Own (ask.Renew who)) k) stream =
     let given : Input = input.Looked (seen c who) in
     let entry : Entry = Observed who (seen c who) in
@@ -223,7 +223,7 @@ goes_as_owed peer calls c next (Asks (Own (ask.Renew who)) k) stream =
     if_allowed_is (GoesAsOwed peer next (Asks (Own (ask.Renew who)) k) stream) calls _ _
     (answer_goes peer next (Own (ask.Renew who)) k stream given refl (entry ∷ []) (line.Adds (next_number c) entry ∷ g.lines) g tt tt refl refl refl refl
     (goes_as_owed peer (spent calls) (with_entry c entry) next (k given) stream))
-    (asked_waits peer c next (Own (ask.Renew who)) k stream)
+    (question_waits peer c next (Own (ask.Renew who)) k stream)
 goes_as_owed peer calls c next (Asks (Own (ask.Check look evidences)) k) stream =
     let given : Input = input.Checked (record { look = look; evidences = evidences }) in
     let g : Gone = going peer calls c next (k given) stream in
@@ -241,7 +241,7 @@ goes_as_owed peer calls c next (Asks (Own (ask.Settle checked flags)) k) stream 
     (goes_as_owed peer (spent calls) c next (k late) stream))
     (answer_goes peer next (Own (ask.Settle checked flags)) k stream given refl (entry ∷ []) (line.Adds (next_number c) entry ∷ h.lines) h tt
     tt (c.clock, refl) refl refl refl (goes_as_owed peer (spent calls) (with_entry c entry) next (k given) stream)))
-    (asked_waits peer c next (Own (ask.Settle checked flags)) k stream)
+    (question_waits peer c next (Own (ask.Settle checked flags)) k stream)
 goes_as_owed peer calls c next (Asks (Own (ask.SettleLocked user evidences flags)) k) stream =
     let given : Input = input.Settled (replied c user evidences flags) in
     let entry : Entry = attempted c user evidences flags in
@@ -249,7 +249,7 @@ goes_as_owed peer calls c next (Asks (Own (ask.SettleLocked user evidences flags
     if_allowed_is (GoesAsOwed peer next (Asks (Own (ask.SettleLocked user evidences flags)) k) stream) calls _ _
     (answer_goes peer next (Own (ask.SettleLocked user evidences flags)) k stream given refl (entry ∷ []) (line.Adds (next_number c) entry ∷ g.lines) g
     tt tt (c.clock, refl) refl refl refl (goes_as_owed peer (spent calls) (with_entry c entry) next (k given) stream))
-    (asked_waits peer c next (Own (ask.SettleLocked user evidences flags)) k stream)
-goes_as_owed peer calls c next (Asks q k) stream = asked_waits peer c next q k stream
+    (question_waits peer c next (Own (ask.SettleLocked user evidences flags)) k stream)
+goes_as_owed peer calls c next (Asks q k) stream = question_waits peer c next q k stream
 goes_as_owed peer calls c next (Over how) stream =
     record { owns = []; nonces = tt; entered = (refl, refl); sends = refl; ends = ends_over peer how stream; stands = inr tt }
