@@ -220,4 +220,6 @@ reads_all reply words rest commands (Says payload t) (client.Says said k) next p
 reads_all reply words rest commands (Hears true k) c next place stream owns fits nonces used found tied = absurd fits
 reads_all reply words rest commands (Hears false k) (client.Hears k') next place stream owns fits nonces used found tied = absurd fits
 reads_all reply words rest commands (Hears false k) (client.Over how) next place stream owns fits nonces used found tied = absurd fits
+reads_all reply words rest commands (Asks (Own (ask.Read want)) k) c next place stream owns fits nonces used found tied = absurd fits
+reads_all reply words rest commands (Asks (Own (ask.Ended how)) k) c next place stream owns fits nonces used found tied = absurd fits
 reads_all reply words rest commands _ c next place stream owns fits nonces used found tied = absurd (no_reply owns reply used found)
