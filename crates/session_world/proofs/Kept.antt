@@ -1,5 +1,5 @@
 -- A session that is kept goes on.
-use Rattle.std.proofs.Common.{◌≡◌, refl, ap, sym, ◌∙◌, subst, ℕ, Bool, false, true}
+use Rattle.std.proofs.Common.{◌≡◌, refl, ap, sym, ◌∙◌, subst, ℕ, Bool, true}
 use Rattle.session_engine.specs.Standing.{next_of, talk_of_session}
 use Rattle.interaction.specs.Talk.{Says, Hears, Asks, Over}
 use Rattle.session_talk.specs.Talk.{Begins, Own, SessionTalk}

@@ -9,7 +9,6 @@ use Rattle.factor_chain.specs.CheckedOf.{CheckedOf}
 use Rattle.factor_chain.specs.declared.credentials.Look.{Look}
 use Rattle.factor_chain.specs.declared.evidence_list.Evidence.{Evidence}
 use Rattle.account_history.specs.declared.entries.Entry.TheVariants.{Observed}
-use Rattle.account_history.specs.declared.entries.Reply.{Reply}
 use Rattle.account_history.specs.declared.entries.Who.{Who}
 use Rattle.packet_stream.specs.Sent.{id_behind, id_behind_all, sent_from}
 use Rattle.interaction.specs.Talk.{Reading, Got, Says, Hears, Asks, Over}
