@@ -18,7 +18,8 @@ use Rattle.auth_packets.specs.Handshake.{greeting_text, nonce_text, opening_text
 use Rattle.auth_packets.specs.Replies.{ok_text}
 use Rattle.auth_packets.specs.declared.handshake.Greeting.{Greeting}
 use Rattle.auth_packets.specs.declared.handshake.Response.{Response}
-use Rattle.session_talk.specs.Logins.{answering, attempt_of, caching, claim_of, claimed, clear_evidence, clearing, greeted, is_blank, is_named, method_of, outcome, proved, proving, responded, session, switched, without_zero}
+use Rattle.session_talk.specs.Logins.{answering, attempt_of, caching, claim_of, claimed, clear_evidence, clearing, greeted, heard_by, is_blank, is_named, method_of, outcome, proved, proving, responded, session, switched, without_zero}
+use Rattle.session_talk.specs.Talk.{on_checked, on_drawn, on_locked, on_look, on_settled, on_start}
 use Rattle.session_talk.specs.Texts.{caching_name, days_of, fast_payload, full_payload, greeting_of, greeting_payload, method_name, native_name, ok_payload, switch_payload, version}
 use Rattle.session_talk.specs.declared.attempts.Attempting.{Attempting}
 use Rattle.session_talk.specs.declared.attempts.Claim as said
@@ -134,13 +135,15 @@ module _ (claim : Claim) (local : claim.local ≡ true) where
   outcome_told k ready user MustChange words = (must_change_short, Refuses 1862, error-heard code.MustChange, end.Refused 1862, ready.err 1862)
 
   proved_fits : (k : Heard → client.Talk) → IsReady k → (a : Attempting) (look : Look) (given : Evidence) → Fits (proved a look given) (client.Hears k)
-  proved_fits k ready a look given = (
-    (λ again. (outcome_told k ready a.user, outcome_told k ready a.user)),
+  unfolding on_checked on_settled on_look on_locked
+  proved_fits k ready a look given = λ checked. (
+    (λ evidences again checked-again. ((λ evidences-again. outcome_told k ready a.user), outcome_told k ready a.user)),
     outcome_told k ready a.user,
   )
 
   caching_fits : (k : Heard → client.Talk) → IsCaching claim k → (a : Attempting) (look : Look) (nonce bytes : List ℕ) (known : Bool) →
       Fits (caching a look nonce bytes known) (client.Hears k)
+  unfolding heard_by
   caching_fits k ready a look nonce bytes true = inr (
     fast_short,
     Fast,
@@ -192,6 +195,7 @@ module _ (claim : Claim) (local : claim.local ≡ true) where
   answers = client-talk.responded claim client-method.CachingSha2
 
   claimed_fits : (a : Attempting) (claimed-by : said.Claim) (look : Look) (named : Bool) → Fits (claimed a claimed-by look named) (client.Hears answers)
+  unfolding on_drawn heard_by
   claimed_fits a claimed-by look true =
       answering_fits answers a look claimed-by.nonce claimed-by.auth (is_blank claimed-by.auth) (caching_knows (method_of look) answers (responded-caching claim))
   claimed_fits a claimed-by look false = λ nonce size. inr (
@@ -203,10 +207,12 @@ module _ (claim : Claim) (local : claim.local ≡ true) where
   )
 
   responded_fits : (nonce : List ℕ) (found : Result Response ℕ) → Fits (responded nonce found) (client.Hears answers)
+  unfolding on_look
   responded_fits nonce (Ok answer) = λ look. claimed_fits (attempt_of answer) (claim_of nonce answer) look (is_named (claim_of nonce answer) look)
   responded_fits nonce (Err at) = inl (tt {0})
 
   pub session_fits : (id : ℕ) → id < 2 ^ 32 → Fits (session id) (client-talk.conversation claim)
+  unfolding on_start heard_by
   session_fits id small nonce size = inr (
     greeting_short id nonce size,
     Greets (greeting_of id nonce),

@@ -10,7 +10,7 @@ use Rattle.account_history.specs.declared.entries.Reply.{Reply}
 use Rattle.account_history.specs.declared.entries.Who.{Who}
 use Rattle.session_talk.proofs.Asking.{asks_are_answered}
 use Rattle.session_talk.specs.Logins as login
-use Rattle.session_talk.specs.Talk.{Talk}
+use Rattle.session_talk.specs.Talk.{SessionTalk}
 use Rattle.session_talk.specs.Turns.{Answers, IsBegun, asked, has_few_labels, is_answer, is_nonce, is_read, is_salt_byte}
 use Rattle.session_talk.specs.declared.actions.Ask.{Ask}
 use Rattle.session_talk.specs.declared.actions.Ask.TheVariants as ask
@@ -37,42 +37,42 @@ drawn_is_nonce nonce n is = ap is_nonce is ∙ digits_are_salt 20 n
 
 -- ## Answers
 
-answers_so : (next : ℕ) (t : Talk) (a : Ask) (given : Input) → IsBegun t → asked next t ≡ a → Answers a given → IsTrue (is_answer t given)
+answers_so : (next : ℕ) (t : SessionTalk) (a : Ask) (given : Input) → IsBegun t → asked next t ≡ a → Answers a given → IsTrue (is_answer t given)
 answers_so next t a given begun asks answers =
     (asks_are_answered next t given begun (subst (λ (x : Ask). Answers x given) (sym asks) answers)).0
 
-pub start_answers : (t : Talk) (number : ℕ) (nonce : List ℕ) → t ≡ login.session number → IsTrue (is_answer t (input.Start nonce))
+pub start_answers : (t : SessionTalk) (number : ℕ) (nonce : List ℕ) → t ≡ login.session number → IsTrue (is_answer t (input.Start nonce))
 unfolding is_answer
-start_answers t number nonce is = ap (λ (u : Talk). is_answer u (input.Start nonce)) is
+start_answers t number nonce is = ap (λ (u : SessionTalk). is_answer u (input.Start nonce)) is
 
-pub read_answers : (next : ℕ) (t : Talk) (want : ℕ) (given : Input) → IsBegun t → asked next t ≡ ask.Read want → IsTrue (is_read given) →
+pub read_answers : (next : ℕ) (t : SessionTalk) (want : ℕ) (given : Input) → IsBegun t → asked next t ≡ ask.Read want → IsTrue (is_read given) →
     IsTrue (is_answer t given)
 read_answers next t want given begun asks read = answers_so next t (ask.Read want) given begun asks read
 
-pub draw_answers : (next : ℕ) (t : Talk) (nonce : List ℕ) (n : ℕ) → IsBegun t → asked next t ≡ ask.Draw → nonce ≡ drawn_nonce n →
+pub draw_answers : (next : ℕ) (t : SessionTalk) (nonce : List ℕ) (n : ℕ) → IsBegun t → asked next t ≡ ask.Draw → nonce ≡ drawn_nonce n →
     IsTrue (is_answer t (input.Drawn nonce))
-draw_answers next t nonce n begun asks is = answers_so next t ask.Draw (input.Drawn nonce) begun asks (drawn_is_nonce nonce n is)
+draw_answers next t nonce n begun asks is = answers_so next t ask.Draw (input.Drawn nonce) begun asks (drawn_is_nonce nonce n is, tt)
 
-pub check_answers : (next : ℕ) (t : Talk) (look : Look) (evidences : List Evidence) (checked : CheckedOf) → IsBegun t → asked next t ≡ ask.Check look evidences →
+pub check_answers : (next : ℕ) (t : SessionTalk) (look : Look) (evidences : List Evidence) (checked : CheckedOf) → IsBegun t → asked next t ≡ ask.Check look evidences →
     checked ≡ record { look = look; evidences = evidences } → IsTrue (is_answer t (input.Checked checked))
-check_answers next t look evidences checked begun asks is = answers_so next t (ask.Check look evidences) (input.Checked checked) begun asks is
+check_answers next t look evidences checked begun asks is = answers_so next t (ask.Check look evidences) (input.Checked checked) begun asks (refl, is)
 
-pub look_answers : (next : ℕ) (t : Talk) (who : Who) (look : Look) → IsBegun t → IsLookAsked (asked next t) who → IsTrue (has_few_labels look.in_force) →
+pub look_answers : (next : ℕ) (t : SessionTalk) (who : Who) (look : Look) → IsBegun t → IsLookAsked (asked next t) who → IsTrue (has_few_labels look.in_force) →
     IsTrue (is_answer t (input.Looked look))
 look_answers next t who look begun is_asked few = by_ask (asked next t) refl is_asked where
   by_ask : (a : Ask) → asked next t ≡ a → IsLookAsked a who → IsTrue (is_answer t (input.Looked look))
-  by_ask (ask.Observe whose) asks is = answers_so next t (ask.Observe whose) (input.Looked look) begun asks few
-  by_ask (ask.Renew whose) asks is = answers_so next t (ask.Renew whose) (input.Looked look) begun asks few
+  by_ask (ask.Observe whose) asks is = answers_so next t (ask.Observe whose) (input.Looked look) begun asks (few, tt)
+  by_ask (ask.Renew whose) asks is = answers_so next t (ask.Renew whose) (input.Looked look) begun asks (few, tt)
   by_ask _ asks is = absurd is
 
-pub stale_answers : (next : ℕ) (t : Talk) (checked : CheckedOf) (flags : ℕ) (evidences : List Evidence) → IsBegun t → asked next t ≡ ask.Settle checked flags →
+pub stale_answers : (next : ℕ) (t : SessionTalk) (checked : CheckedOf) (flags : ℕ) (evidences : List Evidence) → IsBegun t → asked next t ≡ ask.Settle checked flags →
     evidences ≡ checked.evidences → IsTrue (is_answer t (input.Stale evidences))
-stale_answers next t checked flags evidences begun asks is = answers_so next t (ask.Settle checked flags) (input.Stale evidences) begun asks is
+stale_answers next t checked flags evidences begun asks is = answers_so next t (ask.Settle checked flags) (input.Stale evidences) begun asks (refl, is)
 
-pub settled_answers : (next : ℕ) (t : Talk) (checked : CheckedOf) (flags : ℕ) (reply : Reply) → IsBegun t → asked next t ≡ ask.Settle checked flags →
+pub settled_answers : (next : ℕ) (t : SessionTalk) (checked : CheckedOf) (flags : ℕ) (reply : Reply) → IsBegun t → asked next t ≡ ask.Settle checked flags →
     IsTrue (is_answer t (input.Settled reply))
-settled_answers next t checked flags reply begun asks = answers_so next t (ask.Settle checked flags) (input.Settled reply) begun asks tt
+settled_answers next t checked flags reply begun asks = answers_so next t (ask.Settle checked flags) (input.Settled reply) begun asks (refl, tt)
 
-pub locked_answers : (next : ℕ) (t : Talk) (user : List ℕ) (evidences : List Evidence) (flags : ℕ) (reply : Reply) → IsBegun t →
+pub locked_answers : (next : ℕ) (t : SessionTalk) (user : List ℕ) (evidences : List Evidence) (flags : ℕ) (reply : Reply) → IsBegun t →
     asked next t ≡ ask.SettleLocked user evidences flags → IsTrue (is_answer t (input.Settled reply))
-locked_answers next t user evidences flags reply begun asks = answers_so next t (ask.SettleLocked user evidences flags) (input.Settled reply) begun asks refl
+locked_answers next t user evidences flags reply begun asks = answers_so next t (ask.SettleLocked user evidences flags) (input.Settled reply) begun asks (refl, tt)

@@ -5,12 +5,19 @@ use Rattle.packet_frame.specs.Front.{Front, Whole, Part, Fault}
 use Rattle.packet_frame.specs.Packets.{id_after}
 use Rattle.packet_frame.specs.declared.packets.FrameFault.{FrameFault}
 use Rattle.packet_frame.specs.declared.packets.FrameFault.TheVariants.{TooLarge, OutOfOrder, Memory as NoMemory}
+use Rattle.factor_chain.specs.CheckedOf.{CheckedOf}
 use Rattle.factor_chain.specs.declared.credentials.Look.{Look}
+use Rattle.factor_chain.specs.declared.evidence_list.Evidence.{Evidence}
 use Rattle.account_history.specs.declared.entries.Reply.{Reply}
-use Rattle.session_talk.specs.Owed.{Own, Drew, Saw, Late, Did}
+use Rattle.session_talk.specs.declared.actions.Ask.TheVariants as ask
+use Rattle.session_talk.specs.declared.inputs.Input.{Input}
+use Rattle.session_talk.specs.declared.inputs.Input.TheVariants as input
 use Rattle.packet_stream.specs.Sent.{Sent, id_behind}
-use Rattle.session_talk.specs.Talk.{Talk, Says, Hears, Draws, Looks, Checks, Settles, SettlesLocked, Over}
-use Rattle.session_talk.specs.Turns.{faulted, wanted}
+use Rattle.interaction.specs.Talk as reading
+use Rattle.interaction.specs.Talk.{Says, Hears, Asks, Over}
+use Rattle.session_talk.specs.Talk.{Begins, Own, SessionTalk}
+use Rattle.session_talk.specs.Logins.{faulted}
+use Rattle.session_talk.specs.Turns.{wanted}
 use Rattle.session_talk.specs.Wired as wiring
 use Rattle.session_talk.specs.Wired.{Wired, said_from, wired}
 use Rattle.packet_stream.specs.Streams.{Stream, behind_of, by_front, front_of}
@@ -36,30 +43,34 @@ IsShort payload = length payload ≤ MAX_PAYLOAD
 -- ## A client beside a session
 
 -- a session that ends here
-abbrev pub EndsHere : Talk → Type 0
+abbrev pub EndsHere : SessionTalk → Type 0
 EndsHere (Over how) = Unit {0}
 EndsHere t = ⊥
 
 -- what is said of a reply is short, and ends the client
-abbrev pub TellsEnd : client.Talk → Talk → Type 0
+abbrev pub TellsEnd : client.Talk → SessionTalk → Type 0
 TellsEnd (client.Hears k) (Says payload t) = IsShort payload × (heard : Heard) × IsHeard payload heard × (how : LoginEnd) × (k heard ≡ client.Over how)
 TellsEnd _ _ = ⊥
 
 -- Whatever the session is answered, it says something short where the client hears, and the client hears it; and it hears
 -- where the client says something. That goes on until a reply ends the client.
-abbrev pub Fits : Talk → client.Talk → Type 0
+abbrev pub Fits : SessionTalk → client.Talk → Type 0
 Fits (Says payload t) (client.Hears k) = EndsHere t ⊎ (IsShort payload × (heard : Heard) × IsHeard payload heard × Fits t (k heard))
 Fits (Says payload t) (client.Says said k) = ⊥
 Fits (Says payload t) (client.Over how) = Unit {0}
 Fits (Hears true k) c = ⊥
 Fits (Hears false k) (client.Hears k') = ⊥
-Fits (Hears false k) (client.Says said k') = (payload : List ℕ) → Fits (k payload) (client.Hears k')
+Fits (Hears false k) (client.Says said k') = (payload : List ℕ) → Fits (k (reading.Got payload)) (client.Hears k')
 Fits (Hears false k) (client.Over how) = ⊥
-Fits (Draws first k) c = (nonce : List ℕ) → length nonce ≡ 20 → Fits (k nonce) c
-Fits (Looks again who k) c = (look : Look) → Fits (k look) c
-Fits (Checks look evidences t) c = Fits t c
-Fits (Settles checked flags stale k) c = Fits stale c × ((reply : Reply) → HasWords reply → TellsEnd c (k reply))
-Fits (SettlesLocked user evidences flags k) c = (reply : Reply) → HasWords reply → TellsEnd c (k reply)
+Fits (Asks Begins k) c = (nonce : List ℕ) → length nonce ≡ 20 → Fits (k (input.Start nonce)) c
+Fits (Asks (Own ask.Draw) k) c = (nonce : List ℕ) → length nonce ≡ 20 → Fits (k (input.Drawn nonce)) c
+Fits (Asks (Own (ask.Observe who)) k) c = (look : Look) → Fits (k (input.Looked look)) c
+Fits (Asks (Own (ask.Renew who)) k) c = (look : Look) → Fits (k (input.Looked look)) c
+Fits (Asks (Own (ask.Check look evidences)) k) c = (checked : CheckedOf) → Fits (k (input.Checked checked)) c
+Fits (Asks (Own (ask.Settle checked flags)) k) c =
+    ((evidences : List Evidence) → Fits (k (input.Stale evidences)) c) × ((reply : Reply) → HasWords reply → TellsEnd c (k (input.Settled reply)))
+Fits (Asks (Own (ask.SettleLocked user evidences flags)) k) c = (reply : Reply) → HasWords reply → TellsEnd c (k (input.Settled reply))
+Fits (Asks _ k) c = ⊥
 Fits (Over how) c = Unit {0}
 
 -- ## What the client reads
@@ -106,7 +117,7 @@ unfolding getting
 says_reads next said k place [] (written, now, (none, at), result) = (said ∷ [], client.Hears k, (refl, refl), result ∙ ap result_of at)
 says_reads next said k place (first ∷ sent) (written, now, (heard, is, leads), result) = (said ∷ written, now, (written, refl, heard, is, leads), result)
 
-told_reads : (c : client.Talk) (next place : ℕ) (t : Talk) (stream : Stream) (owns : List Own) → TellsEnd c t → ReadsAll next c place (wired next t stream owns).sent
+told_reads : (c : client.Talk) (next place : ℕ) (t : SessionTalk) (stream : Stream) (owns : List Input) → TellsEnd c t → ReadsAll next c place (wired next t stream owns).sent
 unfolding wired
 told_reads (client.Hears k) next place (Says payload t) stream owns (short, heard, is, how, over) =
     let sent : List Sent = (wired (id_behind next payload) t stream owns).sent in
@@ -121,34 +132,34 @@ told_reads _ next place _ stream owns told = absurd told
 abbrev pub IsTied : (next : ℕ) → client.Talk → (place : ℕ) → List Sent → (bytes rest commands : List ℕ) → Type 0
 IsTied next c place sent bytes rest commands = bytes ++ rest ≡ (getting next c (stream_at place sent)).sent ++ commands
 
-no_reply : (owns : List Own) (reply : Reply) → owns ≡ [] → first_reply owns ≡ Some reply → ⊥
+no_reply : (owns : List Input) (reply : Reply) → owns ≡ [] → first_reply owns ≡ Some reply → ⊥
 no_reply owns reply none found = absurd (let e = ap first_reply none in cc)
 
 some_reply : (found reply : Reply) → Some found ≡ Some reply → reply ≡ found
 some_reply found reply e = cc
 
-pub fault_unused : (next : ℕ) (fault : FrameFault) (stream : Stream) (owns : List Own) → (said_from next (faulted fault) stream owns).unused ≡ owns
+pub fault_unused : (next : ℕ) (fault : FrameFault) (stream : Stream) (owns : List Input) → (said_from next (faulted fault) stream owns).unused ≡ owns
 unfolding said_from
 fault_unused next (TooLarge at) stream owns = refl
 fault_unused next (OutOfOrder at want got) stream owns = refl
 fault_unused next NoMemory stream owns = refl
 
-end_unused : (next : ℕ) (t : Talk) (stream : Stream) (owns : List Own) → EndsHere t → (wired next t stream owns).unused ≡ owns
+end_unused : (next : ℕ) (t : SessionTalk) (stream : Stream) (owns : List Input) → EndsHere t → (wired next t stream owns).unused ≡ owns
 unfolding wired
 end_unused next (Over how) stream owns ends = refl
 end_unused next _ stream owns ends = absurd ends
 
 -- a session that hears, while the client says something
-module _ (next : ℕ) (k : List ℕ → Talk) (said : List ℕ) (k' : Heard → client.Talk) (place : ℕ) (stream : Stream) (owns : List Own) (rest commands : List ℕ) (reply : Reply)
+module _ (next : ℕ) (k : reading.Reading → SessionTalk) (said : List ℕ) (k' : Heard → client.Talk) (place : ℕ) (stream : Stream) (owns : List Input) (rest commands : List ℕ) (reply : Reply)
     (found : first_reply owns ≡ Some reply) where
   abbrev wired_by : Front → Wired
-  wired_by f = by_front (λ last payload behind. wired (id_after last) (k payload) (behind_of stream behind) owns)
+  wired_by f = by_front (λ last payload behind. wired (id_after last) (k (reading.Got payload)) (behind_of stream behind) owns)
       (wiring.stops next (Hears false k) stream owns) (λ fault. said_from (id_after (wanted false next)) (faulted fault) stream owns) f
 
   abbrev Again : Type 0
-  Again = (last : ℕ) (payload : List ℕ) (s : Stream) → (wired (id_after last) (k payload) s owns).unused ≡ [] →
-      IsTied (id_after last) (client.Hears k') place (wired (id_after last) (k payload) s owns).sent s.bytes rest commands →
-      ReadsAll (id_after last) (client.Hears k') place (wired (id_after last) (k payload) s owns).sent
+  Again = (last : ℕ) (payload : List ℕ) (s : Stream) → (wired (id_after last) (k (reading.Got payload)) s owns).unused ≡ [] →
+      IsTied (id_after last) (client.Hears k') place (wired (id_after last) (k (reading.Got payload)) s owns).sent s.bytes rest commands →
+      ReadsAll (id_after last) (client.Hears k') place (wired (id_after last) (k (reading.Got payload)) s owns).sent
 
   -- what the client writes behind what it says
   abbrev later : List Sent → List ℕ
@@ -161,7 +172,7 @@ module _ (next : ℕ) (k : List ℕ → Talk) (said : List ℕ) (k' : Heard → 
   by_shown : Again → (f : Front) → front_of next stream ≡ f → (wired_by f).unused ≡ [] → IsTied next (client.Says said k') place (wired_by f).sent stream.bytes rest commands →
       ReadsAll next (client.Says said k') place (wired_by f).sent
   by_shown again (Whole first last payload behind) e used tied =
-      let sent : List Sent = (wired (id_after last) (k payload) (behind_of stream behind) owns).sent in
+      let sent : List Sent = (wired (id_after last) (k (reading.Got payload)) (behind_of stream behind) owns).sent in
       let (same, fits, is, next_is, left) = first_read next stream.place next first last said payload (later sent ++ commands) behind stream.bytes rest (tied_said sent tied) e in
       says_reads next said k' place sent
       (subst (λ (id : ℕ). ReadsAll id (client.Hears k') place sent) next_is
@@ -173,7 +184,7 @@ module _ (next : ℕ) (k : List ℕ → Talk) (said : List ℕ) (k' : Heard → 
       ReadsAll next (client.Says said k') place (wired_by (front_of next stream)).sent
   hears_reads again used tied = by_shown again (front_of next stream) refl used tied
 
-pub reads_all : (reply : Reply) → HasWords reply → (rest commands : List ℕ) (t : Talk) (c : client.Talk) (next place : ℕ) (stream : Stream) (owns : List Own) →
+pub reads_all : (reply : Reply) → HasWords reply → (rest commands : List ℕ) (t : SessionTalk) (c : client.Talk) (next place : ℕ) (stream : Stream) (owns : List Input) →
     Fits t c → AreNonces owns → (wired next t stream owns).unused ≡ [] → first_reply owns ≡ Some reply →
     IsTied next c place (wired next t stream owns).sent stream.bytes rest commands → ReadsAll next c place (wired next t stream owns).sent
 unfolding wired
@@ -188,21 +199,27 @@ reads_all reply words rest commands (Says payload t) (client.Over how) next plac
     over_reads next how place (wired next (Says payload t) stream owns).sent
 reads_all reply words rest commands (Hears false k) (client.Says said k') next place stream owns fits nonces used found tied =
     hears_reads next k said k' place stream owns rest commands reply found
-    (λ last payload s used' tied'. reads_all reply words rest commands (k payload) (client.Hears k') (id_after last) place s owns (fits payload) nonces used' found tied') used tied
-reads_all reply words rest commands (Draws first k) c next place stream (Drew nonce ∷ owns) fits nonces used found tied =
-    reads_all reply words rest commands (k nonce) c next place stream owns (fits nonce nonces.0) nonces.1 used found tied
-reads_all reply words rest commands (Looks again who k) c next place stream (Saw look ∷ owns) fits nonces used found tied =
-    reads_all reply words rest commands (k look) c next place stream owns (fits look) nonces used found tied
-reads_all reply words rest commands (Checks look evidences t) c next place stream owns fits nonces used found tied =
-    reads_all reply words rest commands t c next place stream owns fits nonces used found tied
-reads_all reply words rest commands (Settles checked flags stale k) c next place stream (Late ∷ owns) fits nonces used found tied =
-    reads_all reply words rest commands stale c next place stream owns fits.0 nonces used found tied
-reads_all reply words rest commands (Settles checked flags stale k) c next place stream (Did replied ∷ owns) fits nonces used found tied =
-    told_reads c next place (k replied) stream owns (fits.1 replied (subst (λ (r : Reply). HasWords r) (some_reply replied reply found) words))
-reads_all reply words rest commands (SettlesLocked user evidences flags k) c next place stream (Did replied ∷ owns) fits nonces used found tied =
-    told_reads c next place (k replied) stream owns (fits replied (subst (λ (r : Reply). HasWords r) (some_reply replied reply found) words))
+    (λ last payload s used' tied'. reads_all reply words rest commands (k (reading.Got payload)) (client.Hears k') (id_after last) place s owns (fits payload) nonces used' found tied') used tied
+reads_all reply words rest commands (Asks Begins k) c next place stream (input.Start nonce ∷ owns) fits nonces used found tied =
+    reads_all reply words rest commands (k (input.Start nonce)) c next place stream owns (fits nonce nonces.0) nonces.1 used found tied
+reads_all reply words rest commands (Asks (Own ask.Draw) k) c next place stream (input.Drawn nonce ∷ owns) fits nonces used found tied =
+    reads_all reply words rest commands (k (input.Drawn nonce)) c next place stream owns (fits nonce nonces.0) nonces.1 used found tied
+reads_all reply words rest commands (Asks (Own (ask.Observe who)) k) c next place stream (input.Looked look ∷ owns) fits nonces used found tied =
+    reads_all reply words rest commands (k (input.Looked look)) c next place stream owns (fits look) nonces.1 used found tied
+reads_all reply words rest commands (Asks (Own (ask.Renew who)) k) c next place stream (input.Looked look ∷ owns) fits nonces used found tied =
+    reads_all reply words rest commands (k (input.Looked look)) c next place stream owns (fits look) nonces.1 used found tied
+reads_all reply words rest commands (Asks (Own (ask.Check look evidences)) k) c next place stream (input.Checked checked ∷ owns) fits nonces used found tied =
+    reads_all reply words rest commands (k (input.Checked checked)) c next place stream owns (fits checked) nonces.1 used found tied
+reads_all reply words rest commands (Asks (Own (ask.Settle checked flags)) k) c next place stream (input.Stale evidences ∷ owns) fits nonces used found tied =
+    reads_all reply words rest commands (k (input.Stale evidences)) c next place stream owns (fits.0 evidences) nonces.1 used found tied
+reads_all reply words rest commands (Asks (Own (ask.Settle checked flags)) k) c next place stream (input.Settled replied ∷ owns) fits nonces used found tied =
+    told_reads c next place (k (input.Settled replied)) stream owns (fits.1 replied (subst (λ (r : Reply). HasWords r) (some_reply replied reply found) words))
+reads_all reply words rest commands (Asks (Own (ask.SettleLocked user evidences flags)) k) c next place stream (input.Settled replied ∷ owns) fits nonces used found tied =
+    told_reads c next place (k (input.Settled replied)) stream owns (fits replied (subst (λ (r : Reply). HasWords r) (some_reply replied reply found) words))
 reads_all reply words rest commands (Says payload t) (client.Says said k) next place stream owns fits nonces used found tied = absurd fits
 reads_all reply words rest commands (Hears true k) c next place stream owns fits nonces used found tied = absurd fits
 reads_all reply words rest commands (Hears false k) (client.Hears k') next place stream owns fits nonces used found tied = absurd fits
 reads_all reply words rest commands (Hears false k) (client.Over how) next place stream owns fits nonces used found tied = absurd fits
+reads_all reply words rest commands (Asks (Own (ask.Read want)) k) c next place stream owns fits nonces used found tied = absurd fits
+reads_all reply words rest commands (Asks (Own (ask.Ended how)) k) c next place stream owns fits nonces used found tied = absurd fits
 reads_all reply words rest commands _ c next place stream owns fits nonces used found tied = absurd (no_reply owns reply used found)

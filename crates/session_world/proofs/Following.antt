@@ -7,9 +7,10 @@ use Rattle.account_rules.specs.declared.accounts.Settings.{Settings}
 use Rattle.session_talk.proofs.OverBytes.{wired_goes_on}
 use Rattle.packet_stream.specs.Streams.{Stream, with_more}
 use Rattle.session_talk.specs.Logins.{session}
-use Rattle.session_talk.specs.Owed.{Own, Drew, Saw, Late, Did}
+use Rattle.session_talk.specs.declared.inputs.Input.{Input}
 use Rattle.packet_stream.specs.Sent.{Sent}
-use Rattle.session_talk.specs.Talk.{Talk, Over}
+use Rattle.interaction.specs.Talk.{Over}
+use Rattle.session_talk.specs.Talk.{SessionTalk}
 use Rattle.session_talk.specs.Transcript.{Enters, ended, read_of}
 use Rattle.session_talk.specs.Wired.{Wired, after_all_sent, wired}
 use Rattle.session_talk.specs.declared.ends.SessionEnd.{SessionEnd}
@@ -32,12 +33,12 @@ abbrev all_of : List ℕ → Stream
 all_of bytes = record { place = 0; bytes = bytes }
 
 -- what a session owes for all bytes so far, and what its own side was answered
-abbrev owed_for : (number : ℕ) → List ℕ → List Own → Wired
+abbrev owed_for : (number : ℕ) → List ℕ → List Input → Wired
 owed_for number bytes owns = wired 0 (session number) (all_of bytes) owns
 
 -- a session at a place has sent and entered what is owed, and has ended where that says so
 pub record Stands (number : ℕ) (place : Place) (bytes : List ℕ) (sent : List Sent) (entries : List Entry) (how : List SessionEnd) : Type 0 where
-  pub owns : List Own
+  pub owns : List Input
   pub nonces : AreNonces owns
   pub entered : EntersOver 0 (session number) (all_of bytes) owns entries
   pub sends : sent ≡ (owed_for number bytes owns).sent
@@ -51,18 +52,15 @@ Follows number (Some place) bytes sent entries how = Stands number place bytes s
 
 -- ## One session goes on
 
-nonces_both : (owns more : List Own) → AreNonces owns → AreNonces more → AreNonces (owns ++ more)
+nonces_both : (owns more : List Input) → AreNonces owns → AreNonces more → AreNonces (owns ++ more)
 nonces_both [] more first second = second
-nonces_both (Drew nonce ∷ owns) more first second = (first.0, nonces_both owns more first.1 second)
-nonces_both (Saw look ∷ owns) more first second = nonces_both owns more first second
-nonces_both (Late ∷ owns) more first second = nonces_both owns more first second
-nonces_both (Did reply ∷ owns) more first second = nonces_both owns more first second
+nonces_both (given ∷ owns) more first second = (first.0, nonces_both owns more first.1 second)
 
-as_live : (w : Wired) (next : ℕ) (at : Talk) (unread : Stream) → IsLive w next at unread →
+as_live : (w : Wired) (next : ℕ) (at : SessionTalk) (unread : Stream) → IsLive w next at unread →
     w ≡ record { sent = w.sent; next = next; at = at; unread = unread; unused = [] }
 as_live w next at unread l = λ i. record { sent = w.sent; next = l.next_is i; at = l.at_is i; unread = l.unread_is i; unused = l.unused_is i }
 
-not_over : (peer : Peer) (at : Talk) (stream : Stream) → IsOver at → ended (as_told peer) at stream ≡ None → ⊥
+not_over : (peer : Peer) (at : SessionTalk) (stream : Stream) → IsOver at → ended (as_told peer) at stream ≡ None → ⊥
 not_over Open (Over how) stream over e = absurd (cc)
 not_over Closed (Over how) stream over e = absurd (cc)
 not_over Failed (Over how) stream over e = absurd (cc)

@@ -4,7 +4,7 @@ use Rattle.factor_chain.specs.CheckedOf.{CheckedOf}
 use Rattle.factor_chain.specs.declared.credentials.Look.{Look}
 use Rattle.factor_chain.specs.declared.evidence_list.Evidence.{Evidence}
 use Rattle.session_talk.proofs.Asking.{what_fits_is_asked}
-use Rattle.session_talk.specs.Talk.{Talk}
+use Rattle.session_talk.specs.Talk.{Own, Question, SessionTalk}
 use Rattle.session_talk.specs.Turns.{IsAsked, IsFitting, asked, first_id, heard, rest, said}
 use Rattle.packet_stream.specs.Sent.{Sent, id_behind_all}
 use Rattle.packet_stream.specs.Streams.{Stream}
@@ -24,24 +24,24 @@ use Rattle.packet_stream.specs.Packing.{packet_text, packets_text}
 use Rattle.world_table.specs.Printing.{line_text, lines_text, send_lines}
 use Rattle.session_world.proofs.Turning.{going_said}
 
-fitting : (a : Ask) (given : Input) → ¬ IsGivenBack given → IsFitting a given
-fitting (ask.Check look evidences) (input.Checked checked) free = absurd (free tt)
-fitting (ask.Settle checked flags) (input.Stale evidences) free = absurd (free tt)
+fitting : (q : Question) (given : Input) → ¬ IsGivenBack given → IsFitting q given
+fitting (Own (ask.Check look evidences)) (input.Checked checked) free = absurd (free tt)
+fitting (Own (ask.Settle checked flags)) (input.Stale evidences) free = absurd (free tt)
 fitting _ _ free = tt
 
 -- an input that gives nothing back
-pub free_asked : (t : Talk) (given : Input) → ¬ IsGivenBack given → IsAsked t given
-free_asked t given free = what_fits_is_asked 0 t given (fitting (asked 0 t) given free)
+pub free_asked : (t : SessionTalk) (given : Input) → ¬ IsGivenBack given → IsAsked t given
+free_asked t given free = what_fits_is_asked 0 t given (fitting (Own (asked 0 t)) given free)
 
-pub check_asked : (next : ℕ) (t : Talk) (look : Look) (evidences : List Evidence) (checked : CheckedOf) → asked next t ≡ ask.Check look evidences →
+pub check_asked : (next : ℕ) (t : SessionTalk) (look : Look) (evidences : List Evidence) (checked : CheckedOf) → asked next t ≡ ask.Check look evidences →
     checked ≡ record { look = look; evidences = evidences } → IsAsked t (input.Checked checked)
 check_asked next t look evidences checked asks is =
-    what_fits_is_asked next t (input.Checked checked) (subst (λ (a : Ask). IsFitting a (input.Checked checked)) (sym asks) is)
+    what_fits_is_asked next t (input.Checked checked) (subst (λ (a : Ask). IsFitting (Own a) (input.Checked checked)) (sym asks) is)
 
-pub stale_asked : (next : ℕ) (t : Talk) (checked : CheckedOf) (flags : ℕ) (evidences : List Evidence) → asked next t ≡ ask.Settle checked flags →
+pub stale_asked : (next : ℕ) (t : SessionTalk) (checked : CheckedOf) (flags : ℕ) (evidences : List Evidence) → asked next t ≡ ask.Settle checked flags →
     evidences ≡ checked.evidences → IsAsked t (input.Stale evidences)
 stale_asked next t checked flags evidences asks is =
-    what_fits_is_asked next t (input.Stale evidences) (subst (λ (a : Ask). IsFitting a (input.Stale evidences)) (sym asks) is)
+    what_fits_is_asked next t (input.Stale evidences) (subst (λ (a : Ask). IsFitting (Own a) (input.Stale evidences)) (sym asks) is)
 
 -- ## What a turn leads to
 
@@ -119,14 +119,14 @@ leads_on session a b c x y z first then_ = record {
 }
 
 -- an input was given, and what is sent because of it was printed
-pub acted : (session : ℕ) (peer : Peer) (calls : Calls) (c : Common) (next : ℕ) (t : Talk) (given : Input) (stream : Stream)
-    (here now_here : Output) (next_after : ℕ) (after : Talk) →
+pub acted : (session : ℕ) (peer : Peer) (calls : Calls) (c : Common) (next : ℕ) (t : SessionTalk) (given : Input) (stream : Stream)
+    (here now_here : Output) (next_after : ℕ) (after : SessionTalk) →
     now_here ≡ with_lines session (sent_because next t given) here →
     after ≡ rest (heard t given) → next_after ≡ id_behind_all (first_id next t given) (said (heard t given)) →
     LeadsTo session now_here (going peer calls c next_after after stream) here (going peer calls c (first_id next t given) (heard t given) stream)
 acted session peer calls c next t given stream here now_here next_after after printed after_is next_is =
     subst (λ (n : ℕ). LeadsTo session now_here (going peer calls c n after stream) here (going peer calls c (first_id next t given) (heard t given) stream)) (sym next_is)
-    (subst (λ (u : Talk). LeadsTo session now_here (going peer calls c (id_behind_all (first_id next t given) (said (heard t given))) u stream) here
+    (subst (λ (u : SessionTalk). LeadsTo session now_here (going peer calls c (id_behind_all (first_id next t given) (said (heard t given))) u stream) here
     (going peer calls c (first_id next t given) (heard t given) stream)) (sym after_is)
     (subst (λ (g : Gone). LeadsTo session now_here (going peer calls c (id_behind_all (first_id next t given) (said (heard t given))) (rest (heard t given)) stream) here g)
     (sym (going_said peer calls c (first_id next t given) (heard t given) stream))

@@ -5,7 +5,7 @@ use Rattle.std.specs.Ordering.{nat_cmp}
 use Rattle.session_world.proofs.Taking.{same_number}
 use Rattle.lg_base.specs.declared.allocation.Memory.{Memory}
 use Rattle.session_engine.specs.Standing.{talk_of_session}
-use Rattle.session_talk.specs.Talk.{Talk}
+use Rattle.session_talk.specs.Talk.{SessionTalk}
 use Rattle.session_world.specs.declared.calls.Calls.{Calls}
 use Rattle.session_world.specs.declared.calls.Calls.TheVariants.{Nothing}
 use Rattle.session_world.specs.declared.calls.Peer.{Peer}
@@ -95,7 +95,7 @@ waits_there number place held b c at e is = sym (ap waits at.talk_is) ∙ (sym e
 pub is_there_there : (number : ℕ) (place : Place) (held : Held) (b c : Bool) → IsAt number place held →
     b ≡ is_there (talk_of_session held.seat.session) held.seat.peer → b ≡ c → is_there place.at place.peer ≡ c
 is_there_there number place held b c at e is =
-    sym (ap (λ (t : Talk). is_there t held.seat.peer) at.talk_is ∙ ap (λ (p : Peer). is_there place.at p) at.peer_is) ∙ (sym e ∙ is)
+    sym (ap (λ (t : SessionTalk). is_there t held.seat.peer) at.talk_is ∙ ap (λ (p : Peer). is_there place.at p) at.peer_is) ∙ (sym e ∙ is)
 
 -- what came of an doing is what another says
 pub follows_so : (h other : Happened) (r : Result (Unit {0}) Memory) (common : Common) (sessions : BTreeMap ℕ Held) → other ≡ h →

@@ -4,8 +4,12 @@ use Rattle.packet_frame.specs.Front.{Front, Whole, Part, Fault}
 use Rattle.packet_frame.specs.Packets.{id_after}
 use Rattle.packet_frame.specs.declared.packets.FrameFault.{FrameFault}
 use Rattle.packet_frame.specs.declared.packets.FrameFault.TheVariants.{TooLarge, OutOfOrder, Memory as NoMemory}
-use Rattle.session_talk.specs.Talk.{Talk, Says, Hears, Draws, Looks, Checks, Settles, SettlesLocked, Over}
-use Rattle.session_talk.specs.Turns.{faulted, wanted}
+use Rattle.interaction.specs.Talk.{Got, Says, Hears, Asks, Over}
+use Rattle.session_talk.specs.Talk.{Begins, Own, SessionTalk}
+use Rattle.session_talk.specs.Logins.{faulted}
+use Rattle.session_talk.specs.Turns.{wanted}
+use Rattle.session_talk.specs.declared.actions.Ask.TheVariants as ask
+use Rattle.session_talk.specs.declared.inputs.Input.TheVariants as input
 use Rattle.packet_stream.specs.Streams.{Stream, behind_of, by_front, front_of}
 use Rattle.session_world.specs.declared.calls.Calls.{Calls}
 use Rattle.session_world.specs.declared.calls.Calls.TheVariants.{Nothing, One, All}
@@ -34,7 +38,7 @@ closing_busy c next (TooLarge at) stream = tt
 closing_busy c next (OutOfOrder at want got) stream = tt
 closing_busy c next NoMemory stream = tt
 
-unread_busy : (peer : Peer) (c : Common) (next : ℕ) (t : Talk) (stream : Stream) → AreBusy (unread_by peer c next t stream).lines
+unread_busy : (peer : Peer) (c : Common) (next : ℕ) (t : SessionTalk) (stream : Stream) → AreBusy (unread_by peer c next t stream).lines
 unread_busy Open c next t stream = tt
 unread_busy Closed c next t stream = tt
 unread_busy Failed c next t stream = tt
@@ -52,24 +56,28 @@ if_is P false done otherwise p q = q
 abbrev pub IsBusy : Gone → Type 0
 IsBusy g = AreBusy g.lines
 
-pub going_busy : (peer : Peer) (calls : Calls) (c : Common) (next : ℕ) (t : Talk) (stream : Stream) → IsBusy (going peer calls c next t stream)
+pub going_busy : (peer : Peer) (calls : Calls) (c : Common) (next : ℕ) (t : SessionTalk) (stream : Stream) → IsBusy (going peer calls c next t stream)
 unfolding going
 going_busy peer calls c next (Says payload t) stream = tt
 going_busy peer calls c next (Hears anew k) stream =
-    by_shown (λ last payload s. going_busy peer calls c (id_after last) (k payload) s) (front_of (wanted anew next) stream)
+    by_shown (λ last payload s. going_busy peer calls c (id_after last) (k (Got payload)) s) (front_of (wanted anew next) stream)
   where
-    by_shown : ((last : ℕ) (payload : List ℕ) (s : Stream) → IsBusy (going peer calls c (id_after last) (k payload) s)) → (f : Front) →
-        IsBusy (by_front (λ last payload behind. going peer calls c (id_after last) (k payload) (behind_of stream behind))
+    by_shown : ((last : ℕ) (payload : List ℕ) (s : Stream) → IsBusy (going peer calls c (id_after last) (k (Got payload)) s)) → (f : Front) →
+        IsBusy (by_front (λ last payload behind. going peer calls c (id_after last) (k (Got payload)) (behind_of stream behind))
         (unread_by peer c next (Hears anew k) stream) (λ fault. closing c (id_after (wanted anew next)) (faulted fault) stream) f)
     by_shown again (Whole first last payload behind) = again last payload (behind_of stream behind)
     by_shown again (Part missing) = unread_busy peer c next (Hears anew k) stream
     by_shown again (Fault fault) = closing_busy c (id_after (wanted anew next)) fault stream
-going_busy peer calls c next (Draws first k) stream = going_busy peer calls (with_draw c) next (k (drawn_nonce (c.drawn + 1))) stream
-going_busy peer calls c next (Looks again who k) stream = if_allowed_is IsBusy calls _ _ tt tt
-going_busy peer calls c next (Checks look evidences t) stream = going_busy peer calls c next t stream
-going_busy peer calls c next (Settles checked flags stale k) stream =
+going_busy peer calls c next (Asks Begins k) stream = going_busy peer calls (with_draw c) next (k (input.Start (drawn_nonce (c.drawn + 1)))) stream
+going_busy peer calls c next (Asks (Own ask.Draw) k) stream = going_busy peer calls (with_draw c) next (k (input.Drawn (drawn_nonce (c.drawn + 1)))) stream
+going_busy peer calls c next (Asks (Own (ask.Observe who)) k) stream = if_allowed_is IsBusy calls _ _ tt tt
+going_busy peer calls c next (Asks (Own (ask.Renew who)) k) stream = if_allowed_is IsBusy calls _ _ tt tt
+going_busy peer calls c next (Asks (Own (ask.Check look evidences)) k) stream =
+    going_busy peer calls c next (k (input.Checked (record { look = look; evidences = evidences }))) stream
+going_busy peer calls c next (Asks (Own (ask.Settle checked flags)) k) stream =
     if_allowed_is IsBusy calls _ _ (if_is IsBusy (is_stale c checked.look) _ _ tt tt) tt
-going_busy peer calls c next (SettlesLocked user evidences flags k) stream = if_allowed_is IsBusy calls _ _ tt tt
+going_busy peer calls c next (Asks (Own (ask.SettleLocked user evidences flags)) k) stream = if_allowed_is IsBusy calls _ _ tt tt
+going_busy peer calls c next (Asks _ k) stream = tt
 going_busy peer calls c next (Over how) stream = tt
 
 abbrev pub IsBusyMove : Move → Type 0

@@ -1,8 +1,10 @@
 -- A session that is kept goes on.
-use Rattle.std.proofs.Common.{◌≡◌, refl, ap, sym, ◌∙◌, subst, ℕ, Bool, false, true}
+use Rattle.std.proofs.Common.{◌≡◌, refl, ap, sym, ◌∙◌, subst, ℕ, Bool, true}
 use Rattle.session_engine.specs.Standing.{next_of, talk_of_session}
-use Rattle.session_talk.specs.Talk.{Talk, Says, Hears, Draws, Looks, Checks, Settles, SettlesLocked, Over}
+use Rattle.interaction.specs.Talk.{Says, Hears, Asks, Over}
+use Rattle.session_talk.specs.Talk.{Begins, Own, SessionTalk}
 use Rattle.session_talk.specs.declared.actions.Ask.{Ask}
+use Rattle.session_talk.specs.declared.actions.Ask.TheVariants as ask
 use Rattle.session_talk.specs.Turns.{IsBegun, asked, question, wanted_by}
 use Rattle.packet_stream.specs.Streams.{Stream}
 use Rattle.session_world.specs.declared.calls.Calls.{Calls}
@@ -50,11 +52,11 @@ went_on number place calls before now there here old new number_is peer_is next_
     same =
         ap (λ (p : Peer). going p calls before (next_of old.session) (talk_of_session old.session) old.inbox) (same_peer ∙ peer_is)
         ∙ (ap (λ (n : ℕ). going place.peer calls before n (talk_of_session old.session) old.inbox) next_is
-        ∙ (ap (λ (t : Talk). going place.peer calls before place.next t old.inbox) talk_is
+        ∙ (ap (λ (t : SessionTalk). going place.peer calls before place.next t old.inbox) talk_is
         ∙ ap (λ (s : Stream). going place.peer calls before place.next place.at s) unread_is))
 
 -- a session that was begun goes on as a new one does
-pub begun_so : (number : ℕ) (t : Talk) (before now : Common) (there here : Output) (old new : Seat) →
+pub begun_so : (number : ℕ) (t : SessionTalk) (before now : Common) (there here : Output) (old new : Seat) →
     old.number ≡ number → old.peer ≡ peer.Open → next_of old.session ≡ 0 → talk_of_session old.session ≡ t → old.inbox ≡ no_bytes → SameSeat old new →
     Leads new.number new.peer here Nothing now (next_of new.session) (talk_of_session new.session) new.inbox
     there Nothing before (next_of old.session) (talk_of_session old.session) old.inbox →
@@ -64,7 +66,7 @@ begun_so number t before now there here old new number_is peer_is next_is talk_i
     subst (λ (n : ℕ). LeadsTo n here (at_peer peer.Open) there (going peer.Open Nothing before 0 t no_bytes)) (same.number ∙ number_is)
     (subst (λ (p : Peer). LeadsTo new.number here (at_peer p) there (going p Nothing before 0 t no_bytes)) (same.peer ∙ peer_is)
     (subst (λ (n : ℕ). LeadsTo new.number here (at_peer new.peer) there (going new.peer Nothing before n t no_bytes)) next_is
-    (subst (λ (u : Talk). LeadsTo new.number here (at_peer new.peer) there (going new.peer Nothing before (next_of old.session) u no_bytes)) talk_is
+    (subst (λ (u : SessionTalk). LeadsTo new.number here (at_peer new.peer) there (going new.peer Nothing before (next_of old.session) u no_bytes)) talk_is
     (subst (λ (s : Stream). LeadsTo new.number here (at_peer new.peer) there (going new.peer Nothing before (next_of old.session) (talk_of_session old.session) s)) unread_is leads))))
   where
     at_peer : Peer → Gone
@@ -73,63 +75,55 @@ begun_so number t before now there here old new number_is peer_is next_is talk_i
 pub place_same : (session : ℕ) (a b : Output) (x y : Gone) (p : Peer) → LeadsTo session a x b y → place_of p x ≡ place_of p y
 place_same session a b x y p l =
     ap (λ (n : ℕ). record { next = n; at = x.at; unread = x.unread; peer = p }) l.next
-    ∙ (ap (λ (t : Talk). record { next = y.next; at = t; unread = x.unread; peer = p }) l.at
+    ∙ (ap (λ (t : SessionTalk). record { next = y.next; at = t; unread = x.unread; peer = p }) l.at
     ∙ ap (λ (s : Stream). record { next = y.next; at = y.at; unread = s; peer = p }) l.unread)
 
 -- a session waits for a call exactly where it asks for one
-waits_by : (next : ℕ) (t : Talk) → IsBegun t → is_call (asked next t) ≡ waits t
+waits_by : (next : ℕ) (t : SessionTalk) → IsBegun t → is_call (asked next t) ≡ waits t
 unfolding question wanted_by
-waits_by next (Looks false who k) begun = refl
-waits_by next (Looks true who k) begun = refl
 waits_by next (Says payload t) begun = absurd begun
+waits_by next (Asks (Own asked_for) k) begun = refl
 waits_by next _ begun = refl
 
-pub waits_asked : (next : ℕ) (t : Talk) (asks : Ask) (b : Bool) → asks ≡ asked next t → IsBegun t → b ≡ is_call asks → b ≡ waits t
+pub waits_asked : (next : ℕ) (t : SessionTalk) (asks : Ask) (b : Bool) → asks ≡ asked next t → IsBegun t → b ≡ is_call asks → b ≡ waits t
 waits_asked next t asks b is begun e = e ∙ (ap is_call is ∙ waits_by next t begun)
 
 -- the test of a session that has begun
-pub begun_is : (t : Talk) → is_begun t ≡ true → IsBegun t
+pub begun_is : (t : SessionTalk) → is_begun t ≡ true → IsBegun t
 begun_is (Says payload t) e = absurd (cc)
 begun_is (Hears anew k) e = tt
-begun_is (Draws true k) e = absurd (cc)
-begun_is (Draws false k) e = tt
-begun_is (Looks again who k) e = tt
-begun_is (Checks look evidences t) e = tt
-begun_is (Settles checked flags stale k) e = tt
-begun_is (SettlesLocked user evidences flags k) e = tt
+begun_is (Asks Begins k) e = absurd (cc)
+begun_is (Asks (Own (ask.Read want)) k) e = absurd (cc)
+begun_is (Asks (Own (ask.Ended how)) k) e = absurd (cc)
+begun_is (Asks _ k) e = tt
 begun_is (Over how) e = tt
 
-pub is_begun_of : (t : Talk) → IsBegun t → is_begun t ≡ true
+pub is_begun_of : (t : SessionTalk) → IsBegun t → is_begun t ≡ true
 is_begun_of (Says payload t) begun = absurd begun
-is_begun_of (Draws true k) begun = absurd begun
-is_begun_of (Draws false k) begun = refl
+is_begun_of (Asks Begins k) begun = absurd begun
+is_begun_of (Asks (Own (ask.Read want)) k) begun = absurd begun
+is_begun_of (Asks (Own (ask.Ended how)) k) begun = absurd begun
 is_begun_of _ begun = refl
 
 -- bytes and the end still come to a session exactly where it asks for something and its peer is there
-there_by : (next : ℕ) (t : Talk) (p : Peer) → IsBegun t → is_open_by (asked next t) p ≡ is_there t p
+there_by : (next : ℕ) (t : SessionTalk) (p : Peer) → IsBegun t → is_open_by (asked next t) p ≡ is_there t p
 unfolding question wanted_by
 there_by next (Says payload t) p begun = absurd begun
 there_by next (Over how) p begun = refl
-there_by next (Looks false who k) peer.Open begun = refl
-there_by next (Looks false who k) peer.Closed begun = refl
-there_by next (Looks false who k) peer.Failed begun = refl
-there_by next (Looks true who k) peer.Open begun = refl
-there_by next (Looks true who k) peer.Closed begun = refl
-there_by next (Looks true who k) peer.Failed begun = refl
+there_by next (Asks (Own (ask.Ended how)) k) p begun = absurd begun
 there_by next _ peer.Open begun = refl
 there_by next _ peer.Closed begun = refl
 there_by next _ peer.Failed begun = refl
 
-pub peer_asked : (next : ℕ) (t : Talk) (asks : Ask) (p : Peer) (b : Bool) → asks ≡ asked next t → IsBegun t → b ≡ is_open_by asks p → b ≡ is_there t p
+pub peer_asked : (next : ℕ) (t : SessionTalk) (asks : Ask) (p : Peer) (b : Bool) → asks ≡ asked next t → IsBegun t → b ≡ is_open_by asks p → b ≡ is_there t p
 peer_asked next t asks p b is begun e = e ∙ (ap (λ (a : Ask). is_open_by a p) is ∙ there_by next t p begun)
 
 -- a session has ended exactly where it asks for nothing more
-over_by : (next : ℕ) (t : Talk) → IsBegun t → is_end (asked next t) ≡ is_over t
+over_by : (next : ℕ) (t : SessionTalk) → IsBegun t → is_end (asked next t) ≡ is_over t
 unfolding question wanted_by
-over_by next (Looks false who k) begun = refl
-over_by next (Looks true who k) begun = refl
 over_by next (Says payload t) begun = absurd begun
+over_by next (Asks (Own (ask.Ended how)) k) begun = absurd begun
 over_by next _ begun = refl
 
-pub over_asked : (next : ℕ) (t : Talk) (asks : Ask) (b : Bool) → asks ≡ asked next t → IsBegun t → b ≡ is_end asks → b ≡ is_over t
+pub over_asked : (next : ℕ) (t : SessionTalk) (asks : Ask) (b : Bool) → asks ≡ asked next t → IsBegun t → b ≡ is_end asks → b ≡ is_over t
 over_asked next t asks b is begun e = e ∙ (ap is_end is ∙ over_by next t begun)

@@ -10,8 +10,12 @@ use Rattle.account_history.specs.Legal.{IsAnswered, IsLegal}
 use Rattle.account_history.specs.declared.entries.Entry.{Entry}
 use Rattle.account_history.specs.declared.entries.Entry.TheVariants.{Observed}
 use Rattle.account_history.specs.declared.entries.Log.{Log}
-use Rattle.session_talk.specs.Talk.{Talk, Says, Hears, Draws, Looks, Checks, Settles, SettlesLocked, Over}
-use Rattle.session_talk.specs.Turns.{faulted, wanted}
+use Rattle.interaction.specs.Talk.{Got, Says, Hears, Asks, Over}
+use Rattle.session_talk.specs.Talk.{Begins, Own, SessionTalk}
+use Rattle.session_talk.specs.Logins.{faulted}
+use Rattle.session_talk.specs.Turns.{wanted}
+use Rattle.session_talk.specs.declared.actions.Ask.TheVariants as ask
+use Rattle.session_talk.specs.declared.inputs.Input.TheVariants as input
 use Rattle.packet_stream.specs.Sent.{id_behind}
 use Rattle.packet_stream.specs.Streams.{Stream, behind_of, by_front, front_of}
 use Rattle.session_world.specs.declared.calls.Calls.{Calls}
@@ -73,41 +77,49 @@ closing_writes c next (TooLarge at) stream = unchanged c.log _ refl refl
 closing_writes c next (OutOfOrder at want got) stream = unchanged c.log _ refl refl
 closing_writes c next NoMemory stream = unchanged c.log _ refl refl
 
-unread_writes : (peer : Peer) (c : Common) (next : ℕ) (t : Talk) (stream : Stream) → Writes c (unread_by peer c next t stream)
+unread_writes : (peer : Peer) (c : Common) (next : ℕ) (t : SessionTalk) (stream : Stream) → Writes c (unread_by peer c next t stream)
 unread_writes Open c next t stream = unchanged c.log [] refl refl
 unread_writes Closed c next t stream = unchanged c.log _ refl refl
 unread_writes Failed c next t stream = unchanged c.log _ refl refl
 
-going_writes : (peer : Peer) (calls : Calls) (c : Common) (next : ℕ) (t : Talk) (stream : Stream) → Writes c (going peer calls c next t stream)
+going_writes : (peer : Peer) (calls : Calls) (c : Common) (next : ℕ) (t : SessionTalk) (stream : Stream) → Writes c (going peer calls c next t stream)
 unfolding going
 going_writes peer calls c next (Says payload t) stream = with_same c.log _ _ _ refl refl (going_writes peer calls c (id_behind next payload) t stream)
 going_writes peer calls c next (Hears anew k) stream =
-    by_shown (λ last payload s. going_writes peer calls c (id_after last) (k payload) s) (front_of (wanted anew next) stream)
+    by_shown (λ last payload s. going_writes peer calls c (id_after last) (k (Got payload)) s) (front_of (wanted anew next) stream)
   where
-    by_shown : ((last : ℕ) (payload : List ℕ) (s : Stream) → Writes c (going peer calls c (id_after last) (k payload) s)) → (f : Front) →
-        Writes c (by_front (λ last payload behind. going peer calls c (id_after last) (k payload) (behind_of stream behind))
+    by_shown : ((last : ℕ) (payload : List ℕ) (s : Stream) → Writes c (going peer calls c (id_after last) (k (Got payload)) s)) → (f : Front) →
+        Writes c (by_front (λ last payload behind. going peer calls c (id_after last) (k (Got payload)) (behind_of stream behind))
         (unread_by peer c next (Hears anew k) stream) (λ fault. closing c (id_after (wanted anew next)) (faulted fault) stream) f)
     by_shown again (Whole first last payload behind) = again last payload (behind_of stream behind)
     by_shown again (Part missing) = unread_writes peer c next (Hears anew k) stream
     by_shown again (Fault fault) = closing_writes c (id_after (wanted anew next)) fault stream
-going_writes peer calls c next (Draws first k) stream = going_writes peer calls (with_draw c) next (k (drawn_nonce (c.drawn + 1))) stream
-going_writes peer calls c next (Looks again who k) stream =
+going_writes peer calls c next (Asks Begins k) stream = going_writes peer calls (with_draw c) next (k (input.Start (drawn_nonce (c.drawn + 1)))) stream
+going_writes peer calls c next (Asks (Own ask.Draw) k) stream = going_writes peer calls (with_draw c) next (k (input.Drawn (drawn_nonce (c.drawn + 1)))) stream
+going_writes peer calls c next (Asks (Own (ask.Observe who)) k) stream =
     if_allowed_is (Writes c) calls _ _
-    (one c.log (Observed who (seen c who)) _ _ refl (going_writes peer (spent calls) (with_entry c (Observed who (seen c who))) next (k (seen c who)) stream))
+    (one c.log (Observed who (seen c who)) _ _ refl (going_writes peer (spent calls) (with_entry c (Observed who (seen c who))) next (k (input.Looked (seen c who))) stream))
     (unchanged c.log [] refl refl)
-going_writes peer calls c next (Checks look evidences t) stream = going_writes peer calls c next t stream
-going_writes peer calls c next (Settles checked flags stale k) stream =
+going_writes peer calls c next (Asks (Own (ask.Renew who)) k) stream =
+    if_allowed_is (Writes c) calls _ _
+    (one c.log (Observed who (seen c who)) _ _ refl (going_writes peer (spent calls) (with_entry c (Observed who (seen c who))) next (k (input.Looked (seen c who))) stream))
+    (unchanged c.log [] refl refl)
+going_writes peer calls c next (Asks (Own (ask.Check look evidences)) k) stream =
+    going_writes peer calls c next (k (input.Checked (record { look = look; evidences = evidences }))) stream
+going_writes peer calls c next (Asks (Own (ask.Settle checked flags)) k) stream =
     if_allowed_is (Writes c) calls _ _
     (if_is (Writes c) (is_stale c checked.look) _ _
-    (with_same c.log _ _ _ refl refl (going_writes peer (spent calls) c next stale stream))
+    (with_same c.log _ _ _ refl refl (going_writes peer (spent calls) c next (k (input.Stale checked.evidences)) stream))
     (one c.log (attempted c checked.look.user checked.evidences flags) _ _ refl
-    (going_writes peer (spent calls) (with_entry c (attempted c checked.look.user checked.evidences flags)) next (k (replied c checked.look.user checked.evidences flags)) stream)))
+    (going_writes peer (spent calls) (with_entry c (attempted c checked.look.user checked.evidences flags)) next
+    (k (input.Settled (replied c checked.look.user checked.evidences flags))) stream)))
     (unchanged c.log [] refl refl)
-going_writes peer calls c next (SettlesLocked user evidences flags k) stream =
+going_writes peer calls c next (Asks (Own (ask.SettleLocked user evidences flags)) k) stream =
     if_allowed_is (Writes c) calls _ _
     (one c.log (attempted c user evidences flags) _ _ refl
-    (going_writes peer (spent calls) (with_entry c (attempted c user evidences flags)) next (k (replied c user evidences flags)) stream))
+    (going_writes peer (spent calls) (with_entry c (attempted c user evidences flags)) next (k (input.Settled (replied c user evidences flags))) stream))
     (unchanged c.log [] refl refl)
+going_writes peer calls c next (Asks _ k) stream = unchanged c.log [] refl refl
 going_writes peer calls c next (Over how) stream = unchanged c.log _ refl refl
 
 -- ## Over doings

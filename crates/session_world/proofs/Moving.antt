@@ -2,8 +2,10 @@
 use Rattle.std.proofs.Common.{◌≡◌, refl, ap, subst, ℕ, Bool, true, false, if◌then◌else◌, List, [], append-nil, Option, Some, None}
 use Rattle.packet_stream.specs.Streams.{Stream, with_more}
 use Rattle.session_talk.specs.Logins.{session}
-use Rattle.session_talk.specs.Talk.{Talk, Looks, Settles, SettlesLocked, Over}
+use Rattle.interaction.specs.Talk.{Asks, Over}
+use Rattle.session_talk.specs.Talk.{Question, SessionTalk}
 use Rattle.session_talk.specs.Transcript.{ended}
+use Rattle.session_talk.specs.declared.inputs.Input.{Input}
 use Rattle.session_world.specs.declared.calls.Calls.{Calls}
 use Rattle.session_world.specs.declared.calls.Calls.TheVariants.{Nothing}
 use Rattle.session_world.specs.declared.calls.Peer.{Peer}
@@ -21,19 +23,17 @@ Waits place = (stream : Stream) → ended (as_told place.peer) place.at stream �
 more_nothing : (stream : Stream) → with_more stream [] ≡ stream
 more_nothing stream = ap (λ (bytes : List ℕ). record { place = stream.place; bytes = bytes }) (append-nil stream.bytes)
 
-waits_called : (peer : Peer) (at : Talk) → waits at ≡ true → (stream : Stream) → ended (as_told peer) at stream ≡ None
-waits_called Open (Looks again who k) e stream = refl
-waits_called Closed (Looks again who k) e stream = refl
-waits_called Failed (Looks again who k) e stream = refl
-waits_called Open (Settles checked flags stale k) e stream = refl
-waits_called Closed (Settles checked flags stale k) e stream = refl
-waits_called Failed (Settles checked flags stale k) e stream = refl
-waits_called Open (SettlesLocked user evidences flags k) e stream = refl
-waits_called Closed (SettlesLocked user evidences flags k) e stream = refl
-waits_called Failed (SettlesLocked user evidences flags k) e stream = refl
-waits_called _ _ e stream = absurd (cc)
+-- a session whose own side is asked hasn't ended, however its peer stands
+pub asks_wait : (peer : Peer) (q : Question) (k : Input → SessionTalk) (stream : Stream) → ended (as_told peer) (Asks q k) stream ≡ None
+asks_wait Open q k stream = refl
+asks_wait Closed q k stream = refl
+asks_wait Failed q k stream = refl
 
-waits_there : (peer : Peer) (at : Talk) → is_there at peer ≡ true → (stream : Stream) → ended (as_told peer) at stream ≡ None
+waits_called : (peer : Peer) (at : SessionTalk) → waits at ≡ true → (stream : Stream) → ended (as_told peer) at stream ≡ None
+waits_called peer (Asks q k) e stream = asks_wait peer q k stream
+waits_called peer _ e stream = absurd (cc)
+
+waits_there : (peer : Peer) (at : SessionTalk) → is_there at peer ≡ true → (stream : Stream) → ended (as_told peer) at stream ≡ None
 waits_there Open (Over how) e stream = absurd (cc)
 waits_there Closed (Over how) e stream = absurd (cc)
 waits_there Failed (Over how) e stream = absurd (cc)

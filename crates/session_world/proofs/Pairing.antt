@@ -4,7 +4,8 @@ use Rattle.std.proofs.lemmas.Bool.Decides.{eqb_tells}
 use Rattle.packet_stream.specs.Streams.{with_more}
 use Rattle.session_talk.specs.Logins.{session}
 use Rattle.packet_stream.specs.Sent.{Sent}
-use Rattle.session_talk.specs.Talk.{Talk, Over}
+use Rattle.interaction.specs.Talk.{Over}
+use Rattle.session_talk.specs.Talk.{SessionTalk}
 use Rattle.session_talk.specs.Transcript.{ended}
 use Rattle.packet_stream.specs.Packing.{packets_text}
 use Rattle.world_table.specs.Printing.{Idle}
@@ -31,7 +32,7 @@ some_client a b e = cc
 
 over_waits : (place : Place) → Waits place → is_over_at (Some place) ≡ true → ⊥
 over_waits place ready e = by place.peer place.at (ready place.unread) e where
-  by : (peer : Peer) (at : Talk) → ended (as_told peer) at place.unread ≡ None → is_over at ≡ true → ⊥
+  by : (peer : Peer) (at : SessionTalk) → ended (as_told peer) at place.unread ≡ None → is_over at ≡ true → ⊥
   by Open (Over how) f is = absurd (cc)
   by Closed (Over how) f is = absurd (cc)
   by Failed (Over how) f is = absurd (cc)

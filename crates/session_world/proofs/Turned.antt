@@ -9,7 +9,8 @@ use Rattle.factor_chain.specs.declared.evidence_list.Evidence.{Evidence}
 use Rattle.account_history.specs.declared.entries.Entry.TheVariants.{Observed}
 use Rattle.account_history.specs.declared.entries.Reply.{Reply}
 use Rattle.account_history.specs.declared.entries.Who.{Who}
-use Rattle.session_talk.specs.Talk.{Talk, Says, Hears, Draws, Looks, Settles, SettlesLocked, Over}
+use Rattle.interaction.specs.Talk.{Says, Hears, Asks, Over}
+use Rattle.session_talk.specs.Talk.{Begins, Own, SessionTalk}
 use Rattle.session_talk.specs.Turns.{IsBegun, asked, first_id, heard, question, wanted_by}
 use Rattle.packet_stream.specs.Streams.{Stream, front_of}
 use Rattle.session_talk.specs.declared.actions.Ask.{Ask}
@@ -34,7 +35,7 @@ use Rattle.world_table.specs.Printing.{entry_line, line_text}
 use Rattle.session_world.proofs.Giving.{acted, leads_on, one_line, printed_first}
 use Rattle.session_world.proofs.Turning.{on_check, on_draw, on_fault, on_locked, on_nothing, on_observe, on_over, on_packet, on_renew, on_settle, on_stale}
 
-module _ (session : ℕ) (peer : Peer) (next : ℕ) (t : Talk) (here now_here : Output) (next_after : ℕ) (after : Talk) where
+module _ (session : ℕ) (peer : Peer) (next : ℕ) (t : SessionTalk) (here now_here : Output) (next_after : ℕ) (after : SessionTalk) where
   -- a turn on which nothing is printed but what is sent
   quietly : (calls more : Calls) (c d : Common) (given : Input) (stream unread : Stream) → Acted session next t given here now_here next_after after →
       going peer calls c next t stream ≡ going peer more d (first_id next t given) (heard t given) unread →
@@ -68,13 +69,14 @@ module _ (session : ℕ) (peer : Peer) (next : ℕ) (t : Talk) (here now_here : 
       ∙ ap (λ (x : Common). going peer calls x (first_id next t (input.Drawn nonce)) (heard t (input.Drawn nonce)) stream) (sym common))
 
   pub check_leads : (calls : Calls) (c : Common) (stream : Stream) (look : Look) (evidences : List Evidence) (checked : CheckedOf) → IsBegun t →
-      asked next t ≡ ask.Check look evidences → Acted session next t (input.Checked checked) here now_here next_after after →
+      asked next t ≡ ask.Check look evidences → checked ≡ record { look = look; evidences = evidences } →
+      Acted session next t (input.Checked checked) here now_here next_after after →
       Leads session peer now_here calls c next_after after stream here calls c next t stream
-  check_leads calls c stream look evidences checked begun asks a =
-      quietly calls calls c c (input.Checked checked) stream stream a (on_check peer calls c next stream t look evidences checked begun asks)
+  check_leads calls c stream look evidences checked begun asks is a =
+      quietly calls calls c c (input.Checked checked) stream stream a (on_check peer calls c next stream t look evidences checked begun asks is)
 
 -- nothing was read, and the session waits
-pub waits_rests : (session : ℕ) (calls : Calls) (c : Common) (next : ℕ) (t : Talk) (stream unread : Stream) (want : ℕ) (here : Output) → IsBegun t →
+pub waits_rests : (session : ℕ) (calls : Calls) (c : Common) (next : ℕ) (t : SessionTalk) (stream unread : Stream) (want : ℕ) (here : Output) → IsBegun t →
     asked next t ≡ ask.Read want → Takes want stream unread found.Nothing → Rests session Open here c next t unread here calls c next t stream
 waits_rests session calls c next t stream unread want here begun asks takes =
     subst (λ (s : Stream). LeadsTo session here (stops c next t s) here (going Open calls c next t stream)) (sym takes.0)
@@ -84,26 +86,24 @@ waits_rests session calls c next t stream unread want here begun asks takes =
 
 module _ (calls : Calls) (c : Common) (next : ℕ) (stream : Stream) where
   -- the peer has closed the connection, or the link has failed
-  on_closed : (t : Talk) (want missing : ℕ) → IsBegun t → asked next t ≡ ask.Read want → front_of want stream ≡ Part missing →
+  on_closed : (t : SessionTalk) (want missing : ℕ) → IsBegun t → asked next t ≡ ask.Read want → front_of want stream ≡ Part missing →
       going Closed calls c next t stream
       ≡ going Closed calls c (first_id next t (input.End (not (length stream.bytes == 0)))) (heard t (input.End (not (length stream.bytes == 0)))) stream
   unfolding going heard question wanted_by
   on_closed (Hears anew k) want missing begun asks is = on_nothing Closed calls c next stream (Hears anew k) want missing begun asks is
   on_closed (Says payload t) want missing begun asks is = absurd begun
-  on_closed (Looks false who k) want missing begun asks is = absurd (cc)
-  on_closed (Looks true who k) want missing begun asks is = absurd (cc)
+  on_closed (Asks (Own (ask.Read want')) k) want missing begun asks is = absurd begun
   on_closed _ want missing begun asks is = absurd (cc)
 
-  on_failed : (t : Talk) (want missing : ℕ) → IsBegun t → asked next t ≡ ask.Read want → front_of want stream ≡ Part missing →
+  on_failed : (t : SessionTalk) (want missing : ℕ) → IsBegun t → asked next t ≡ ask.Read want → front_of want stream ≡ Part missing →
       going Failed calls c next t stream ≡ going Failed calls c (first_id next t input.LinkFailed) (heard t input.LinkFailed) stream
   unfolding going heard question wanted_by
   on_failed (Hears anew k) want missing begun asks is = on_nothing Failed calls c next stream (Hears anew k) want missing begun asks is
   on_failed (Says payload t) want missing begun asks is = absurd begun
-  on_failed (Looks false who k) want missing begun asks is = absurd (cc)
-  on_failed (Looks true who k) want missing begun asks is = absurd (cc)
+  on_failed (Asks (Own (ask.Read want')) k) want missing begun asks is = absurd begun
   on_failed _ want missing begun asks is = absurd (cc)
 
-module _ (session : ℕ) (next : ℕ) (t : Talk) (here now_here : Output) (next_after : ℕ) (after : Talk) where
+module _ (session : ℕ) (next : ℕ) (t : SessionTalk) (here now_here : Output) (next_after : ℕ) (after : SessionTalk) where
   pub closed_leads : (calls : Calls) (c : Common) (stream unread : Stream) (want : ℕ) (cut : Bool) → IsBegun t → asked next t ≡ ask.Read want →
       Takes want stream unread found.Nothing → cut ≡ not (length unread.bytes == 0) →
       Acted session next t (input.End cut) here now_here next_after after →
@@ -230,53 +230,52 @@ module _ (session : ℕ) (next : ℕ) (t : Talk) (here now_here : Output) (next_
       (on_locked peer calls c next stream t user evidences flags some begun asks)
 
 -- the end is printed, and nothing more comes
-pub over_rests : (session : ℕ) (peer : Peer) (calls : Calls) (c : Common) (next : ℕ) (t : Talk) (stream : Stream) (how : SessionEnd) (here now_here : Output) →
+pub over_rests : (session : ℕ) (peer : Peer) (calls : Calls) (c : Common) (next : ℕ) (t : SessionTalk) (stream : Stream) (how : SessionEnd) (here now_here : Output) →
     IsBegun t → asked next t ≡ ask.Ended how → now_here ≡ record here { lines = here.lines ++ line_text session (Ends how) } → t ≡ Over how →
     Rests session peer now_here c next t stream here calls c next t stream
 over_rests session peer calls c next t stream how here now_here begun asks printed is =
     subst (λ (g : Gone). LeadsTo session now_here (stops c next t stream) here g) (sym (on_over peer calls c next stream t how begun asks))
-    (subst (λ (u : Talk). LeadsTo session now_here (stops c next t stream) here (after_line (Ends how) (stops c next u stream))) is
+    (subst (λ (u : SessionTalk). LeadsTo session now_here (stops c next t stream) here (after_line (Ends how) (stops c next u stream))) is
     (printed_first session here now_here (Ends how ∷ []) (stops c next t stream)
     (printed ∙ one_line session (Ends how) here refl)))
 
 -- no call is allowed, and the session waits for one
 module _ (session : ℕ) (peer : Peer) (c : Common) (next : ℕ) (stream : Stream) (here : Output) where
-  abbrev Waits : Talk → Type 0
+  abbrev Waits : SessionTalk → Type 0
   Waits t = Rests session peer here c next t stream here Nothing c next t stream
 
-  rests : (t : Talk) → going peer Nothing c next t stream ≡ stops c next t stream → Waits t
+  rests : (t : SessionTalk) → going peer Nothing c next t stream ≡ stops c next t stream → Waits t
   rests t is = subst (λ (g : Gone). LeadsTo session here (stops c next t stream) here g) (sym is)
       (record { printed = refl; common = refl; next = refl; at = refl; unread = refl })
 
-  pub call_rests : (t : Talk) → IsBegun t → IsCall (asked next t) → Waits t
+  pub call_rests : (t : SessionTalk) → IsBegun t → IsCall (asked next t) → Waits t
   unfolding going question wanted_by
-  call_rests (Looks false who k) begun is_call = rests (Looks false who k) refl
-  call_rests (Looks true who k) begun is_call = rests (Looks true who k) refl
-  call_rests (Settles checked flags stale k) begun is_call = rests (Settles checked flags stale k) refl
-  call_rests (SettlesLocked user evidences flags k) begun is_call = rests (SettlesLocked user evidences flags k) refl
+  call_rests (Asks (Own (ask.Observe who)) k) begun is_call = rests (Asks (Own (ask.Observe who)) k) refl
+  call_rests (Asks (Own (ask.Renew who)) k) begun is_call = rests (Asks (Own (ask.Renew who)) k) refl
+  call_rests (Asks (Own (ask.Settle checked flags)) k) begun is_call = rests (Asks (Own (ask.Settle checked flags)) k) refl
+  call_rests (Asks (Own (ask.SettleLocked user evidences flags)) k) begun is_call = rests (Asks (Own (ask.SettleLocked user evidences flags)) k) refl
   call_rests (Says payload t) begun is_call = absurd begun
   call_rests _ begun is_call = absurd is_call
 
 -- a session that asks for nothing has ended
-pub over_is : (next : ℕ) (t : Talk) (how : SessionEnd) → IsBegun t → asked next t ≡ ask.Ended how → t ≡ Over how
+pub over_is : (next : ℕ) (t : SessionTalk) (how : SessionEnd) → IsBegun t → asked next t ≡ ask.Ended how → t ≡ Over how
 unfolding question wanted_by
 over_is next (Over how') how begun asks = ap Over (same asks)
   where
     same : ask.Ended how' ≡ ask.Ended how → how' ≡ how
     same e = cc
 over_is next (Says payload t) how begun asks = absurd begun
-over_is next (Looks false who k) how begun asks = absurd (cc)
-over_is next (Looks true who k) how begun asks = absurd (cc)
+over_is next (Asks (Own (ask.Ended how')) k) how begun asks = absurd begun
 over_is next _ how begun asks = absurd (cc)
 
-pub ended_rests : (session : ℕ) (peer : Peer) (calls : Calls) (c : Common) (next : ℕ) (t : Talk) (stream : Stream) (how : SessionEnd) (here now_here : Output) →
+pub ended_rests : (session : ℕ) (peer : Peer) (calls : Calls) (c : Common) (next : ℕ) (t : SessionTalk) (stream : Stream) (how : SessionEnd) (here now_here : Output) →
     IsBegun t → asked next t ≡ ask.Ended how → now_here ≡ record here { lines = here.lines ++ line_text session (Ends how) } →
     Rests session peer now_here c next t stream here calls c next t stream
 ended_rests session peer calls c next t stream how here now_here begun asks printed =
     over_rests session peer calls c next t stream how here now_here begun asks printed (over_is next t how begun asks)
 
 -- the same, where a test has told that no call is allowed
-pub none_rests : (calls : Calls) (session : ℕ) (peer : Peer) (c : Common) (next : ℕ) (t : Talk) (stream : Stream) (here : Output) →
+pub none_rests : (calls : Calls) (session : ℕ) (peer : Peer) (c : Common) (next : ℕ) (t : SessionTalk) (stream : Stream) (here : Output) →
     (calls ≢ Nothing → false ≡ true) → IsBegun t → (asks : Ask) → asks ≡ asked next t → IsCall asks →
     Rests session peer here c next t stream here calls c next t stream
 none_rests Nothing session peer c next t stream here not_allowed begun asks is is_call =
@@ -297,13 +296,13 @@ none_rests All session peer c next t stream here not_allowed begun asks is is_ca
     differs e = absurd (cc)
 
 -- a new session begins
-pub begin_leads : (session : ℕ) (peer : Peer) (next : ℕ) (k : List ℕ → Talk) (here now_here : Output) (next_after : ℕ) (after : Talk)
+pub begin_leads : (session : ℕ) (peer : Peer) (next : ℕ) (k : Input → SessionTalk) (here now_here : Output) (next_after : ℕ) (after : SessionTalk)
     (calls : Calls) (c d : Common) (stream : Stream) (nonce : List ℕ) → nonce ≡ drawn_nonce (c.drawn + 1) → d ≡ with_draw c →
-    Acted session next (Draws true k) (input.Start nonce) here now_here next_after after →
-    Leads session peer now_here calls d next_after after stream here calls c next (Draws true k) stream
+    Acted session next (Asks Begins k) (input.Start nonce) here now_here next_after after →
+    Leads session peer now_here calls d next_after after stream here calls c next (Asks Begins k) stream
 unfolding going heard
 begin_leads session peer next k here now_here next_after after calls c d stream nonce is common a =
-    quietly session peer next (Draws true k) here now_here next_after after calls calls c d (input.Start nonce) stream stream a same
+    quietly session peer next (Asks Begins k) here now_here next_after after calls calls c d (input.Start nonce) stream stream a same
   where
-    same : going peer calls (with_draw c) next (k (drawn_nonce (c.drawn + 1))) stream ≡ going peer calls d next (k nonce) stream
+    same : going peer calls (with_draw c) next (k (input.Start (drawn_nonce (c.drawn + 1)))) stream ≡ going peer calls d next (k (input.Start nonce)) stream
     same = cc

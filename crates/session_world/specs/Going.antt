@@ -6,8 +6,13 @@ use Rattle.account_history.specs.declared.entries.Entry.{Entry}
 use Rattle.account_history.specs.declared.entries.Entry.TheVariants.{Observed}
 use Rattle.session_talk.specs.declared.ends.SessionEnd.{SessionEnd}
 use Rattle.session_talk.specs.declared.ends.SessionEnd.TheVariants as end
-use Rattle.session_talk.specs.Talk.{Talk, Says, Hears, Draws, Looks, Checks, Settles, SettlesLocked, Over}
-use Rattle.session_talk.specs.Turns.{faulted, wanted}
+use Rattle.interaction.specs.Talk.{Got, Says, Hears, Asks, Over}
+use Rattle.session_talk.specs.declared.actions.Ask.TheVariants as ask
+use Rattle.session_talk.specs.declared.inputs.Input.{Input}
+use Rattle.session_talk.specs.declared.inputs.Input.TheVariants as input
+use Rattle.session_talk.specs.Logins.{faulted}
+use Rattle.session_talk.specs.Talk.{Begins, Own, Question, SessionTalk}
+use Rattle.session_talk.specs.Turns.{wanted}
 use Rattle.packet_stream.specs.Sent.{id_behind}
 use Rattle.packet_stream.specs.Streams.{Stream, behind_of, by_front, front_of}
 use Rattle.world_table.specs.Drawing.{drawn_nonce}
@@ -24,13 +29,13 @@ pub record Gone : Type 0 where
   pub lines : List Line
   pub common : Common
   pub next : ℕ
-  pub at : Talk
+  pub at : SessionTalk
   pub unread : Stream
 
 abbrev pub after_line : Line → Gone → Gone
 after_line line g = record g { lines = line ∷ g.lines }
 
-abbrev pub stops : Common → ℕ → Talk → Stream → Gone
+abbrev pub stops : Common → ℕ → SessionTalk → Stream → Gone
 stops c next t stream = record { lines = []; common = c; next = next; at = t; unread = stream }
 
 -- the session has ended
@@ -38,14 +43,14 @@ abbrev pub over : Common → ℕ → SessionEnd → Stream → Gone
 over c next how stream = after_line (Ends how) (stops c next (Over how) stream)
 
 -- a talk that only says and is over
-unfoldable pub closing : Common → ℕ → Talk → Stream → Gone
+unfoldable pub closing : Common → ℕ → SessionTalk → Stream → Gone
 closing c next (Says payload t) stream =
     after_line (Sends (record { first = next; payload = payload })) (closing c (id_behind next payload) t stream)
 closing c next (Over how) stream = over c next how stream
 closing c next t stream = stops c next t stream
 
 -- a packet is waited for, and there is none: the peer may have closed, or the link may have failed
-abbrev pub unread_by : Peer → Common → ℕ → Talk → Stream → Gone
+abbrev pub unread_by : Peer → Common → ℕ → SessionTalk → Stream → Gone
 unread_by Open c next t stream = stops c next t stream
 unread_by Closed c next t stream = over c next (end.PeerClosed (not (length stream.bytes == 0))) stream
 unread_by Failed c next t stream = over c next end.LinkFault stream
@@ -65,28 +70,38 @@ if_allowed All allowed otherwise = allowed
 abbrev pub adding : Common → Entry → (Common → Gone) → Gone
 adding c entry goes_on = after_line (Adds (next_number c) entry) (goes_on (with_entry c entry))
 
-unfoldable pub going : Peer → Calls → Common → (next : ℕ) → Talk → Stream → Gone
+-- How a question is answered, and how the session goes on with the answer, by the calls that are left and by what is
+-- common from then on: a draw and a check are answered at once, and a call of the account store where it is allowed. Else
+-- the session waits.
+abbrev pub by_question : Calls → Common → Question → (Calls → Common → Input → Gone) → (waits : Gone) → Gone
+by_question calls c Begins goes_on waits = goes_on calls (with_draw c) (input.Start (drawn_nonce (c.drawn + 1)))
+by_question calls c (Own ask.Draw) goes_on waits = goes_on calls (with_draw c) (input.Drawn (drawn_nonce (c.drawn + 1)))
+by_question calls c (Own (ask.Observe who)) goes_on waits =
+    if_allowed calls (adding c (Observed who (seen c who)) (λ d. goes_on (spent calls) d (input.Looked (seen c who)))) waits
+by_question calls c (Own (ask.Renew who)) goes_on waits =
+    if_allowed calls (adding c (Observed who (seen c who)) (λ d. goes_on (spent calls) d (input.Looked (seen c who)))) waits
+by_question calls c (Own (ask.Check look evidences)) goes_on waits =
+    goes_on calls c (input.Checked (record { look = look; evidences = evidences }))
+by_question calls c (Own (ask.Settle checked flags)) goes_on waits =
+    if_allowed calls
+    (if is_stale c checked.look then after_line Stale (goes_on (spent calls) c (input.Stale checked.evidences))
+    else adding c (attempted c checked.look.user checked.evidences flags)
+    (λ d. goes_on (spent calls) d (input.Settled (replied c checked.look.user checked.evidences flags))))
+    waits
+by_question calls c (Own (ask.SettleLocked user evidences flags)) goes_on waits =
+    if_allowed calls
+    (adding c (attempted c user evidences flags) (λ d. goes_on (spent calls) d (input.Settled (replied c user evidences flags))))
+    waits
+by_question calls c _ goes_on waits = waits
+
+unfoldable pub going : Peer → Calls → Common → (next : ℕ) → SessionTalk → Stream → Gone
 going peer calls c next (Says payload t) stream =
     after_line (Sends (record { first = next; payload = payload })) (going peer calls c (id_behind next payload) t stream)
 going peer calls c next (Hears anew k) stream =
-    by_front (λ last payload behind. going peer calls c (id_after last) (k payload) (behind_of stream behind))
+    by_front (λ last payload behind. going peer calls c (id_after last) (k (Got payload)) (behind_of stream behind))
     (unread_by peer c next (Hears anew k) stream)
     (λ fault. closing c (id_after (wanted anew next)) (faulted fault) stream)
     (front_of (wanted anew next) stream)
-going peer calls c next (Draws first k) stream = going peer calls (with_draw c) next (k (drawn_nonce (c.drawn + 1))) stream
-going peer calls c next (Looks again who k) stream =
-    if_allowed calls
-    (adding c (Observed who (seen c who)) (λ d. going peer (spent calls) d next (k (seen c who)) stream))
-    (stops c next (Looks again who k) stream)
-going peer calls c next (Checks look evidences t) stream = going peer calls c next t stream
-going peer calls c next (Settles checked flags stale k) stream =
-    if_allowed calls
-    (if is_stale c checked.look then after_line Stale (going peer (spent calls) c next stale stream)
-    else adding c (attempted c checked.look.user checked.evidences flags)
-    (λ d. going peer (spent calls) d next (k (replied c checked.look.user checked.evidences flags)) stream))
-    (stops c next (Settles checked flags stale k) stream)
-going peer calls c next (SettlesLocked user evidences flags k) stream =
-    if_allowed calls
-    (adding c (attempted c user evidences flags) (λ d. going peer (spent calls) d next (k (replied c user evidences flags)) stream))
-    (stops c next (SettlesLocked user evidences flags k) stream)
+going peer calls c next (Asks q k) stream =
+    by_question calls c q (λ more d given. going peer more d next (k given) stream) (stops c next (Asks q k) stream)
 going peer calls c next (Over how) stream = over c next how stream

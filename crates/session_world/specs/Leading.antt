@@ -4,7 +4,7 @@ use Rattle.account_history.specs.declared.entries.Who.{Who}
 use Rattle.session_talk.specs.declared.actions.Ask.{Ask}
 use Rattle.session_talk.specs.declared.actions.Ask.TheVariants as ask
 use Rattle.packet_stream.specs.Sent.{id_behind_all, sent_from}
-use Rattle.session_talk.specs.Talk.{Talk}
+use Rattle.session_talk.specs.Talk.{SessionTalk}
 use Rattle.session_talk.specs.Turns.{first_id, heard, rest, said}
 use Rattle.session_talk.specs.declared.inputs.Input.{Input}
 use Rattle.session_talk.specs.declared.inputs.Input.TheVariants as input
@@ -24,7 +24,7 @@ abbrev pub after_lines : List Line → Gone → Gone
 after_lines before g = record g { lines = before ++ g.lines }
 
 -- what is sent because of an input
-abbrev pub sent_because : (next : ℕ) → Talk → Input → List Line
+abbrev pub sent_because : (next : ℕ) → SessionTalk → Input → List Line
 sent_because next t given = send_lines (sent_from (first_id next t given) (said (heard t given)))
 
 -- with further lines of a session: their text is printed, and the packets of the payloads in them are sent
@@ -50,19 +50,19 @@ IsGivenBack (input.Stale evidences) = Unit {0}
 IsGivenBack _ = ⊥
 
 -- the same, where a session goes on from one state to another
-abbrev pub Leads : (session : ℕ) → Peer → (here : Output) → Calls → Common → (next : ℕ) → Talk → Stream →
-    (there : Output) → Calls → Common → (next_before : ℕ) → Talk → Stream → Type 0
+abbrev pub Leads : (session : ℕ) → Peer → (here : Output) → Calls → Common → (next : ℕ) → SessionTalk → Stream →
+    (there : Output) → Calls → Common → (next_before : ℕ) → SessionTalk → Stream → Type 0
 Leads session peer here calls c next t stream there calls_before d next_before u before =
     LeadsTo session here (going peer calls c next t stream) there (going peer calls_before d next_before u before)
 
 -- a session waits, and nothing more comes
-abbrev pub Rests : (session : ℕ) → Peer → (here : Output) → Common → (next : ℕ) → Talk → Stream →
-    (there : Output) → Calls → Common → (next_before : ℕ) → Talk → Stream → Type 0
+abbrev pub Rests : (session : ℕ) → Peer → (here : Output) → Common → (next : ℕ) → SessionTalk → Stream →
+    (there : Output) → Calls → Common → (next_before : ℕ) → SessionTalk → Stream → Type 0
 Rests session peer here c next t stream there calls d next_before u before =
     LeadsTo session here (stops c next t stream) there (going peer calls d next_before u before)
 
 -- what was given to a session: what it printed, and where it then stands
-pub record Acted (session : ℕ) (next : ℕ) (t : Talk) (given : Input) (here now_here : Output) (next_after : ℕ) (after : Talk) : Type 0 where
+pub record Acted (session : ℕ) (next : ℕ) (t : SessionTalk) (given : Input) (here now_here : Output) (next_after : ℕ) (after : SessionTalk) : Type 0 where
   pub printed : now_here ≡ with_lines session (sent_because next t given) here
   pub stands : after ≡ rest (heard t given)
   pub next_is : next_after ≡ id_behind_all (first_id next t given) (said (heard t given))

@@ -8,7 +8,8 @@ use Rattle.account_history.specs.declared.entries.Opening.{Opening}
 use Rattle.account_machine.specs.Openings.{opening_start}
 use Rattle.account_rules.specs.declared.accounts.Settings.{Settings}
 use Rattle.session_talk.specs.Logins.{session}
-use Rattle.session_talk.specs.Talk.{Talk, Says, Hears, Draws, Looks, Checks, Settles, SettlesLocked, Over}
+use Rattle.interaction.specs.Talk.{Asks, Over}
+use Rattle.session_talk.specs.Talk.{Own, SessionTalk}
 use Rattle.packet_stream.specs.Streams.{Stream}
 use Rattle.session_talk.specs.declared.actions.Ask.{Ask}
 use Rattle.session_talk.specs.declared.actions.Ask.TheVariants as ask
@@ -23,7 +24,7 @@ use Rattle.session_world.specs.declared.calls.Peer.TheVariants.{Open, Closed, Fa
 -- a session: the id of its next packet, where its talk stands, the bytes that it hasn't read, and its peer
 pub record Place : Type 0 where
   pub next : ℕ
-  pub at : Talk
+  pub at : SessionTalk
   pub unread : Stream
   pub peer : Peer
 
@@ -70,17 +71,6 @@ going_on w number calls place = goes w number place.peer (going place.peer calls
 abbrev pub no_bytes : Stream
 no_bytes = record { place = 0; bytes = [] }
 
--- a session waits for a call of the account store
-abbrev pub waits : Talk → Bool
-waits (Says payload t) = false
-waits (Hears anew k) = false
-waits (Draws first k) = false
-waits (Looks again who k) = true
-waits (Checks look evidences t) = false
-waits (Settles checked flags stale k) = true
-waits (SettlesLocked user evidences flags k) = true
-waits (Over how) = false
-
 abbrev pub is_call : Ask → Bool
 is_call (ask.Read want) = false
 is_call ask.Draw = false
@@ -91,12 +81,17 @@ is_call (ask.Settle checked flags) = true
 is_call (ask.SettleLocked user evidences flags) = true
 is_call (ask.Ended how) = false
 
+-- a session waits for a call of the account store
+abbrev pub waits : SessionTalk → Bool
+waits (Asks (Own asked_for) k) = is_call asked_for
+waits t = false
+
 abbrev pub is_end : Ask → Bool
 is_end (ask.Ended how) = true
 is_end _ = false
 
 -- bytes and the end still come to a session that hasn't ended, and whose peer is there
-abbrev pub is_there : Talk → Peer → Bool
+abbrev pub is_there : SessionTalk → Peer → Bool
 is_there (Over how) peer = false
 is_there t Open = true
 is_there t Closed = false
@@ -117,7 +112,7 @@ abbrev pub is_there_at : Option Place → Bool
 is_there_at None = false
 is_there_at (Some place) = is_there place.at place.peer
 
-abbrev pub is_over : Talk → Bool
+abbrev pub is_over : SessionTalk → Bool
 is_over (Over how) = true
 is_over t = false
 
