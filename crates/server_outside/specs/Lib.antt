@@ -1,0 +1,5 @@
+pub mod Judges
+pub mod Numbered
+pub mod Readings
+pub mod Telling
+pub mod Verdicts
