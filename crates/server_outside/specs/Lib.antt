@@ -1,3 +1,5 @@
+pub mod Foyers
+pub mod Halls
 pub mod Judges
 pub mod Numbered
 pub mod Readings

@@ -8,16 +8,22 @@
 
 pub mod clocks;
 pub mod counted_draws;
+pub mod doors;
 pub mod draws;
+pub mod gates;
 pub mod list_clock;
 pub mod list_verifier;
+pub mod memory_door;
 pub mod verifiers;
 
 pub use clocks::Clock;
 pub use counted_draws::CountedDraws;
+pub use doors::Door;
 pub use draws::Draws;
+pub use gates::{Gate, NoGate, PairGate};
 pub use list_clock::ListClock;
 pub use list_verifier::ListVerifier;
+pub use memory_door::MemoryDoor;
 pub use verifiers::{Accepted, Verdict, Verifier};
 
 #[cfg(test)]
