@@ -1,4 +1,4 @@
-use Rattle.std.proofs.Common.{◌+◌, ◌≤◌, arith}
+use Rattle.std.proofs.Common.{arith}
 use Rattle.std.proofs.lemmas.List.Elements.{All-rest}
 use Rattle.server_outside.specs.Foyers.{IsNew}
 use Rattle.server_outside.proofs.memory_door.MemoryDoorDoor.next.Goals as goal
