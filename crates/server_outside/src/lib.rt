@@ -1,9 +1,11 @@
-//! The outside of the server, as traits: the clock, the draws of nonces, and the verifier of further factors. Beside each
-//! trait stands its form in memory, which tells contracts what it has given and fails at listed calls alone.
+//! The outside of the server, as traits: clocks, draws of nonces, verifiers of further factors, gates, doors where
+//! connections come in, and makers of what each session needs. Beside each trait stands its form in memory, which tells
+//! contracts what it has given and fails at listed calls alone. Of the adapters, which tell nothing of what they
+//! have given, the system's clock and draws by ChaCha20 stand here.
 //!
-//! **What an object gives comes last in what it tells**, until it ceases to tell. Contracts see of each object what it was
-//! made with, and no call of these traits changes that. A call answers `Failed` only where the object's count of
-//! faults rose in that call, or stands at the end of its type.
+//! **What a clock, draws or a verifier give comes last in what they tell**, until they cease to tell. Contracts see what
+//! they and a maker were made with, and no call of the traits changes that. **A door gives the first link that is left.**
+//! A call answers `Failed` only where the object's count of faults rose in that call, or stands at the end of its type.
 #![tactic(auto)]
 
 pub mod chacha_draws;
