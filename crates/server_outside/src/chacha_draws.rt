@@ -1,6 +1,5 @@
 //! Draws by ChaCha20. They tell nothing of what they have given.
 
-ghost use Rattle.lg_outside.specs.Faults.{Rose};
 ghost use Rattle.rand_chacha.specs.ChaCha.{key_of};
 ghost use Rattle.server_outside.specs.Streams.{made_from, stream_letters};
 ghost use Rattle.server_outside.specs.Telling.{Gave, untold_draws};

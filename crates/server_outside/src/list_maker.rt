@@ -2,11 +2,9 @@
 
 ghost use Rattle.lg_outside.specs.Faults.{Rose};
 ghost use Rattle.lg_outside.specs.Plan.{after_call, fails_next};
-ghost use Rattle.server_outside.specs.Making.{HasGivenNone, has_sound};
-ghost use Rattle.server_outside.specs.Readings.{first_readings};
-ghost use Rattle.server_outside.specs.Judges.{lists_of, never_fails};
-ghost use Rattle.server_outside.specs.Numbered.{told_draws};
-ghost use Rattle.std.specs.Prelude.{◌≡◌, ◌≤◌, ◌||◌, Some, true, false, IfOk, OnErr, is_err, is_ok};
+ghost use Rattle.server_outside.specs.Making.{has_sound};
+ghost use Rattle.server_outside.specs.Judges.{lists_of};
+ghost use Rattle.std.specs.Prelude.{◌≡◌, ◌≤◌, ◌||◌, true, false, IfOk, OnErr, is_err, is_ok};
 
 use crate::counted_draws::CountedDraws;
 use crate::list_clock::ListClock;

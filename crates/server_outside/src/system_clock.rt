@@ -1,6 +1,7 @@
 //! The clock of the system. It tells nothing of what it has given.
 
-ghost use Rattle.server_outside.specs.Telling.{Gave, untold_readings};
+ghost use Rattle.server_outside.specs.Telling.{untold_readings};
+ghost use Rattle.std.specs.Prelude.{◌≡◌};
 
 use crate::clocks::Clock;
 use std::time::Clock as TellsTime;
@@ -13,7 +14,9 @@ pub struct SystemClock<T> {
 
 impl<T> SystemClock<T> {
     /// A clock that reads the time by `time`.
-    pub fn new(time: T) -> SystemClock<T> {
+    pub fn new(time: T) -> SystemClock<T>
+        ensures { result ≡ record { time = time } }
+    {
         SystemClock { time }
     }
 }
