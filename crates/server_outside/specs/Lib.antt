@@ -1,0 +1,9 @@
+pub mod Foyers
+pub mod Halls
+pub mod Judges
+pub mod Making
+pub mod Numbered
+pub mod Readings
+pub mod Streams
+pub mod Telling
+pub mod Verdicts
