@@ -14,6 +14,3 @@ pub mod evidence_list;
 pub use checking::{Checked, all_fit_on, check, fit_on, fits_password, known_fits};
 pub use credentials::{Credential, InForce, Look, Method, PastRecord, Stored};
 pub use evidence_list::{Evidence, Evidences, Fit};
-
-#[cfg(test)]
-mod tests;
