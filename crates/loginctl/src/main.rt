@@ -49,6 +49,4 @@ fn main(rt: HostRuntime) -> ExitCode {
 }
 
 #[cfg(test)]
-mod login_tests;
-#[cfg(test)]
 mod tests;
