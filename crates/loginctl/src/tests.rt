@@ -117,7 +117,7 @@ fn run(
         one(alloc, call)?,
     )?;
     let status = run_tool(alloc, words.as_slice(), &mut input, &mut out, &mut link);
-    Ok((status, Bytes::copy(alloc, out.written())?))
+    Ok((status.code(), Bytes::copy(alloc, out.written())?))
 }
 
 #[test]
