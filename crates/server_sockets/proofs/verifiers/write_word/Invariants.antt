@@ -1,0 +1,6 @@
+-- Each piece takes at least one of the bytes that are left.
+use Rattle.std.proofs.Common.{length}
+use Rattle.server_sockets.proofs.verifiers.write_word.Given as goal
+
+abbrev pub decreases-loop-left : goal.decreases-loop-left
+decreases-loop-left g l = length l.left

@@ -1,0 +1,13 @@
+//! A keeper may be given to another thread.
+
+use crate::keeper::FileKeeper;
+
+/// What may be given to another thread.
+fn sent<T: Send>(given: T) -> T {
+    given
+}
+
+/// The keeper itself. That this is proved shows that a keeper over a file of the disk may be given to another thread.
+pub fn sent_keeper(keeper: FileKeeper) -> FileKeeper {
+    sent(keeper)
+}
