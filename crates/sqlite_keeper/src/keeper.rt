@@ -2,10 +2,12 @@
 
 ghost use Rattle.lg_outside.specs.Keeping.{Ascend, Changes, IsCaused, IsLoaded, put_row, remove_row};
 ghost use Rattle.sqlite_keeper.specs.Counts.{count_after, count_of, fault_kind, untold_rows};
-ghost use Rattle.std.specs.Prelude.{◌≡◌, ◌≤◌, ◌^◌, Err, IfOk, IsSome, None, OnErr, OnOk, is_some};
+ghost use Rattle.sqlite_keeper.specs.Runs.{RunsOnFile};
+ghost use Rattle.sqlite.specs.declared.types.Value.TheVariants.{Blob, Int};
+ghost use Rattle.std.specs.Prelude.{◌≡◌, ◌≤◌, ◌^◌, [], ◌∷◌, Err, IfOk, IsSome, None, OnErr, OnOk, is_some, pos};
 
 use crate::opening::open;
-use crate::statements::{load_from, put_into, remove_from};
+use crate::statements::{PUT, REMOVE, load_from, put_into, remove_from};
 use lg_base::Items;
 use lg_outside::{KeepFault, Keeper, Row};
 use sqlite::{Alter, Connection, Error, ErrorCode, FileFrom, FileStore, Wary};
@@ -102,6 +104,7 @@ impl Keeper for SqliteKeeper<Disk> {
         ensures stays { is_some self.new.file ≡ is_some self.old.file }
         ensures unattached { self.old.file ≡ None → result ≡ Err KeepFault.Failed }
         ensures large { 2 ^ 63 ≤ key → result ≡ Err KeepFault.Failed }
+        ensures runs { OnOk result (RunsOnFile PUT.now (Int (pos key) ∷ Blob bytes.now ∷ []) self.old.file self.new.file) }
     {
         match put_into(&mut self.file, key, bytes) {
             Ok(()) => Ok(()),
@@ -118,6 +121,7 @@ impl Keeper for SqliteKeeper<Disk> {
         ensures stays { is_some self.new.file ≡ is_some self.old.file }
         ensures unattached { self.old.file ≡ None → result ≡ Err KeepFault.Failed }
         ensures large { 2 ^ 63 ≤ key → result ≡ Err KeepFault.Failed }
+        ensures runs { OnOk result (RunsOnFile REMOVE.now (Int (pos key) ∷ []) self.old.file self.new.file) }
     {
         match remove_from(&mut self.file, key) {
             Ok(()) => Ok(()),

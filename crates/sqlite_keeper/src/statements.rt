@@ -2,9 +2,10 @@
 
 ghost use Rattle.lg_outside.specs.Keeping.{Ascend};
 ghost use Rattle.sqlite.specs.Held.{state};
+ghost use Rattle.sqlite_keeper.specs.Runs.{Runs};
 ghost use Rattle.sqlite.specs.State.{Executes, HasCleanDisk};
 ghost use Rattle.sqlite.specs.declared.types.Value.TheVariants.{Blob, Int};
-ghost use Rattle.std.specs.Prelude.{◌≡◌, ◌≤◌, ◌-◌, ◌^◌, [], ◌∷◌, Err, IfOk, IsSome, IsTrue, None, OnErr, is_err, is_some, nat_lt, pos};
+ghost use Rattle.std.specs.Prelude.{◌≡◌, ◌≤◌, ◌-◌, ◌^◌, [], ◌∷◌, Err, IfOk, IsSome, IsTrue, None, OnErr, OnOk, is_err, is_some, nat_lt, pos};
 
 use lg_base::{Bytes, Items};
 use lg_outside::Row;
@@ -20,10 +21,10 @@ const TEXTS: &str = "SELECT sql FROM sqlite_schema WHERE tbl_name = 'account'";
 
 const ALL_ROWS: &str = "SELECT \"key\", record FROM account ORDER BY \"key\"";
 
-const PUT: &str =
+pub(crate) const PUT: &str =
     "INSERT INTO account (\"key\", record) VALUES (?1, ?2) ON CONFLICT (\"key\") DO UPDATE SET record = excluded.record";
 
-const REMOVE: &str = "DELETE FROM account WHERE \"key\" = ?1";
+pub(crate) const REMOVE: &str = "DELETE FROM account WHERE \"key\" = ?1";
 
 /// What is answered where the file holds what a keeper doesn't write.
 const NOT_OURS: Error = Error::SqliteFailure(ErrorCode::NotADatabase);
@@ -143,6 +144,7 @@ pub(crate) fn put_into<S: Alter>(
     ensures stays { is_some file.new ≡ is_some file.old }
     ensures unattached { file.old ≡ None → result ≡ Err (Error.SqliteFailure ErrorCode.CannotOpen) }
     ensures large { IsSome file.old → 2 ^ 63 ≤ key → result ≡ Err (Error.IntegralValueOutOfRange 0) }
+    ensures runs { OnOk result (Runs S.Store PUT.now (Int (pos key) ∷ Blob bytes.now ∷ []) file.old file.new) }
 {
     let Some(file) = file else {
         return Err(NOT_ATTACHED);
@@ -156,6 +158,7 @@ pub(crate) fn remove_from<S: Alter>(file: &mut Option<Connection<S>>, key: u64) 
     ensures stays { is_some file.new ≡ is_some file.old }
     ensures unattached { file.old ≡ None → result ≡ Err (Error.SqliteFailure ErrorCode.CannotOpen) }
     ensures large { IsSome file.old → 2 ^ 63 ≤ key → result ≡ Err (Error.IntegralValueOutOfRange 0) }
+    ensures runs { OnOk result (Runs S.Store REMOVE.now (Int (pos key) ∷ []) file.old file.new) }
 {
     let Some(file) = file else {
         return Err(NOT_ATTACHED);
