@@ -57,7 +57,7 @@ impl Accounts {
     ghost use Rattle.account_machine.specs.Agreeing.{Agrees};
     ghost use Rattle.account_machine.specs.Committing.{execution_of, has_failed, told_after};
     ghost use Rattle.account_machine.specs.Labels.{ShowsFewLabels};
-    ghost use Rattle.account_machine.specs.Loading.{AreLoadable, IsFault, IsLoaded, Loads, loaded};
+    ghost use Rattle.account_machine.specs.Loading.{AreLoadable, IsFault, IsFirstBad, IsLoaded, Loads, Refuses, loaded};
     ghost use Rattle.account_machine.specs.Openings.{are_openings, opening_start};
     ghost use Rattle.account_history.specs.Preparing.{who_of};
     ghost use Rattle.account_rules.specs.declared.accounts.Account.{Account};
@@ -65,7 +65,7 @@ impl Accounts {
     ghost use Rattle.lg_outside.specs.Keeping.{Ascend};
     ghost use Rattle.sha256_crypt.specs.Alphabet.{IsSaltByte};
     ghost use Rattle.std.specs.List.{All};
-    ghost use Rattle.std.specs.Prelude.{◌≡◌, ◌≤◌, max, [], None, IfErr, IfOk, IfSome, IsTrue, List, OnErr};
+    ghost use Rattle.std.specs.Prelude.{◌≡◌, ◌≤◌, max, [], None, IfErr, IfOk, IfSome, IsTrue, List, OnErr, ℕ};
 
     /// The accounts of a start: `'root'@'localhost'` with number 1, without a password and with both
     /// privileges, and a native account at `localhost` for each of `extra`, with the next numbers. Each
@@ -102,6 +102,7 @@ impl Accounts {
         ensures loaded { IfOk result (IsLoaded rows.now settings) }
         ensures bad { IfErr result (IsFault rows.now) }
         ensures found { (accounts : List Account) → AreLoadable rows.now accounts → Loads (λ made. made ≡ loaded accounts settings) result }
+        ensures first { (key : ℕ) → IsFirstBad rows.now key → Refuses key result }
     {
         let made = load_rows(alloc, rows)?;
         let log = GhostValue::of(&LoadNote {
