@@ -1,8 +1,8 @@
 #!/usr/bin/env python3
-"""Prints the vectors of the tests of crates/sha256_crypt: the text of src/tests/vectors.rt.
+"""Prints what crypt_probe is asked (`crypt_vectors.py stdin`) and what it has to answer (`crypt_vectors.py stdout`).
 
-Each vector takes the beginnings of one password and one salt. Its sum comes from the formula in
-sha_crypt.py, and the system's crypt(3) has to agree where it is there and takes the case.
+Most cases take the beginnings of one password and one salt. Each sum comes from the formula in sha_crypt.py, and the
+system's crypt(3) has to agree where it is there and takes the case: on standard error a line says so for each.
 """
 
 import sys
@@ -17,6 +17,12 @@ SALT = b"saltSALT0123./abcXYZ"
 PASSWORD_LENGTHS = [0, 1, 2, 15, 16, 31, 32, 33, 55, 56, 63, 64, 65, 127, 128, 129, 255, 256]
 ROUNDS = [1, 2, 3, 4, 7, 8, 21, 22, 42, 43, 999, 1000, 1001, 4999, 5000]
 
+SPECIAL = [
+    (b"Hello world!", b"saltstring", 5000),
+    (b"\x00\x80\xff\n", SALT, 5000),
+    (b"\x00\xff", b"abcdefghij./89ABCXYZ", 43),
+]
+
 CASES = (
     [(13, salt, 1000) for salt in range(21)]
     + [(password, 16, 1000) for password in PASSWORD_LENGTHS]
@@ -27,35 +33,37 @@ CASES = (
 )
 
 
+# Lines that are answered by `bad`: no round, too many, two words, no hexadecimal digits, a password of 257 bytes, a salt
+# of 21.
+BAD = ["00 00 0", "00 00", "xx 00 1", f"{bytes(257).hex()} 00 1", f"00 {bytes(21).hex()} 1", "00 00 4095001"]
+
+
+def word(text):
+    return text.hex() or "-"
+
+
+def checked_sum(system, password, salt, rounds):
+    """The formula's sum, with which crypt(3) agrees where it takes the case."""
+    total = sha_crypt.formula(password, salt, rounds)
+    if system is not None and sha_crypt.system_takes(password, salt, rounds):
+        if system(password, salt, rounds) != total:
+            sys.exit(f"crypt(3) differs at {password}, {salt}, {rounds}")
+        print("agreed", file=sys.stderr)
+    return total.decode()
+
+
 def main():
     system = sha_crypt.system_crypt()
     if system is None:
         print("no crypt(3) with SHA-256 here: the formula stands alone", file=sys.stderr)
-    rows = []
-    agreed = 0
-    for password_length, salt_length, rounds in CASES:
-        case = PASSWORD[:password_length], SALT[:salt_length], rounds
-        total = sha_crypt.formula(*case)
-        if system is not None and sha_crypt.system_takes(*case):
-            if system(*case) != total:
-                sys.exit(f"crypt(3) differs at {case}")
-            agreed += 1
-        rows.append((password_length, salt_length, rounds, total.decode()))
-    print("//! Vectors that were computed outside: interop/crypt_vectors.py prints this file.")
-    print()
-    print("/// A password of this length, a salt of this length, a number of rounds, and the sum.")
-    print("pub type Vector = (usize, usize, u32, &'static str);")
-    print()
-    print("pub const PASSWORD: &[u8; 256] =")
-    print(f'    b"{PASSWORD.decode()}";')
-    print()
-    print(f'pub const SALT: &[u8; 20] = b"{SALT.decode()}";')
-    print()
-    print(f"pub const VECTORS: [Vector; {len(rows)}] = [")
-    for password_length, salt_length, rounds, total in rows:
-        print(f'    ({password_length}, {salt_length}, {rounds}, "{total}"),')
-    print("];")
-    print(f"{len(rows)} vectors, crypt(3) agreed on {agreed}", file=sys.stderr)
+    cases = SPECIAL + [(PASSWORD[:length], SALT[:salt], rounds) for length, salt, rounds in CASES]
+    for password, salt, rounds in cases:
+        if sys.argv[1] == "stdin":
+            print(word(password), word(salt), rounds)
+        else:
+            print(checked_sum(system, password, salt, rounds))
+    for line in BAD:
+        print(line if sys.argv[1] == "stdin" else "bad")
 
 
 if __name__ == "__main__":

@@ -12,9 +12,12 @@ pub mod Naming
 pub mod Numbers
 pub mod Options
 pub mod Passwords
+pub mod Preparing
 pub mod Privileges
 pub mod Records
 pub mod Refusals
+pub mod Replies
+pub mod Searching
 pub mod Sound
 pub mod Stamps
 pub mod Targets

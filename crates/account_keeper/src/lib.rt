@@ -17,6 +17,3 @@ pub use fitting::fits_record;
 pub use memory_keeper::MemoryKeeper;
 pub use reading::{RecordFault, read_record};
 pub use writing::write_record;
-
-#[cfg(test)]
-mod tests;

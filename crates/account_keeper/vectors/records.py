@@ -1,7 +1,8 @@
 #!/usr/bin/env python3
 """Prints what record_probe is asked (`records.py stdin`) and what it has to answer (`records.py stdout`): the root
 account's record, a record with every field and each cut of it, each field at both ends of its range and outside
-it, and the longest pasts.
+it, and the longest pasts. Then come the calls of a keeper in memory, whose first, second, fourth and sixth call fail, and
+of a second one, none of whose calls does.
 
 Whether bytes are a record stands in the table, written by hand. What an account's record says is read by a
 restatement of the layout that shares nothing with the crate.
@@ -172,6 +173,19 @@ def account(key, record):
     return said
 
 
+# Calls of a keeper, and what each prints: rows stand in the order of their keys, a row that is put takes the place of the
+# one with its key, a row that isn't there may be removed, and a call that fails changes nothing.
+CALLS = [
+    ('attach', 'failed'), ('load', 'failed'), ('put 1 6f6e65', 'done'), ('put 2 74776f', 'failed'),
+    ('remove 4', 'done'), ('remove 1', 'failed'), ('rows', '1=6f6e65 faults 4'), ('fail', 'done'),
+    ('remove 1', 'failed'), ('rows', '1=6f6e65 faults 5'), ('remove 1', 'done'), ('rows', 'faults 5'),
+    ('new', ''),
+    ('attach', 'done'), ('load', 'loaded'), ('put 5 66697665', 'done'), ('put 2 74776f', 'done'),
+    ('put 5 6669667468', 'done'), ('put 9 6e696e65', 'done'), ('remove 9', 'done'), ('remove 3', 'done'),
+    ('load', '2=74776f 5=6669667468 loaded'), ('rows', '2=74776f 5=6669667468 faults 0'),
+]
+
+
 def main():
     wanted = sys.argv[1]
     for key, record, outcome in cases():
@@ -179,6 +193,8 @@ def main():
             print(key, record.hex())
         else:
             print(account(key, record) + 'same' if outcome else 'bad')
+    for call, said in CALLS:
+        print('keeper ' + call if wanted == 'stdin' else said, end='\n' if wanted == 'stdin' or said else '')
 
 
 main()

@@ -1,11 +1,12 @@
 mod Answered
 mod Attempts
 mod Committed
-mod Effected
+mod Digested
 mod Executed
 mod Fitted
 mod Follows
 mod Found
+mod Holding
 mod Labelled
 mod Places
 mod Raised
@@ -15,7 +16,9 @@ mod Refusing
 mod Renumbered
 mod Replaced
 mod Restarted
+mod Roomy
 mod Seen
+mod Shown
 mod Starts
 mod Told
 mod Unrefused

@@ -2,7 +2,9 @@ pub mod Agreeing
 pub mod Clearing
 pub mod Committing
 pub mod Counting
+pub mod Digesting
 pub mod Executing
+pub mod Fitting
 pub mod Keeping
 pub mod Labels
 pub mod Loading
@@ -10,7 +12,6 @@ pub mod Looks
 pub mod Openings
 pub mod Pasts
 pub mod Restarts
-pub mod Preparing
 pub mod Rows
 pub mod Stands
 pub mod Targets

@@ -8,10 +8,12 @@
 //! `factor_chain` and `login_lock`.
 #![tactic(auto)]
 
+mod attempting;
 mod clearing;
 mod committing;
 mod effects;
 pub mod executing;
+mod forgetting;
 mod keeping;
 pub mod laws;
 pub mod loading;
@@ -20,16 +22,14 @@ pub mod machine;
 mod notes;
 mod openings;
 mod options;
-mod passwords;
-pub mod preparing;
 mod refusals;
 pub mod rows;
 pub mod stamps;
 mod targets;
 #[cfg(test)]
 mod tests;
+mod verdicts;
 
-pub use account_history::{Opening, Reply, StmtReply, Who};
+pub use account_history::{Opening, Prepared, Reply, StmtReply, Who, prepare};
 pub use loading::MachineFault;
 pub use machine::Accounts;
-pub use preparing::{Prepared, prepare};

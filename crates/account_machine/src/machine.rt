@@ -1,17 +1,19 @@
 //! The account machine: one object that stands for a history of looks, attempts and account statements.
 
+use crate::attempting::attempt_on;
 use crate::committing::{next_change, perform};
 use crate::executing::{Numbers, next_numbers};
+use crate::forgetting::make_room;
 use crate::loading::{LoadNote, MachineFault, load_rows};
 use crate::looks::look_at;
 use crate::notes::{AttemptNote, CountNote, LookNote, StartNote, StatementNote};
 use crate::openings::opening_rows;
-use crate::preparing::Prepared;
-use crate::rows::{Row, attempt_on};
+use crate::rows::Row;
 use crate::stamps::Stamps;
 use crate::targets::first_refusal;
-use account_history::{Log, Opening, Reply, StmtReply, Who};
+use account_history::{Log, Opening, Prepared, Reply, StmtReply, Who};
 use account_rules::Settings;
+use digest_cache::Digests;
 use factor_chain::{Checked, Evidences, Look};
 use ghost_value::GhostValue;
 use lg_base::{Code, Memory};
@@ -29,6 +31,8 @@ pub struct Accounts {
     /// The greatest numbers that were ever given.
     numbers: Numbers,
     stamps: Stamps,
+    /// The digests of passwords that users have logged in with.
+    digests: Digests,
     /// How often a stamp was raised: no stamp is greater.
     changes: u64,
     log: GhostValue<Log>,
@@ -37,19 +41,22 @@ pub struct Accounts {
 impl Model for Accounts {
     ghost use Rattle.account_history.specs.declared.entries.Log.{Log};
     ghost use Rattle.account_history.specs.Histories.{history};
+    ghost use Rattle.account_machine.specs.Digesting.{AreDigests};
     ghost use Rattle.account_machine.specs.Stands.{Stands};
 
     ghost Value = { Log };
 
     ghost view = { λ a. a.log.value };
 
-    ghost invariant = { λ a. Stands a.rows.items a.settings a.moment a.numbers a.stamps a.changes (history a.log.value) };
+    ghost invariant = { λ a. Stands a.rows.items a.settings a.moment a.numbers a.stamps a.changes (history a.log.value)
+        × AreDigests a.digests (history a.log.value) };
 }
 
 impl Accounts {
     ghost use Rattle.account_history.specs.Answers.{attempt_reply, look_of, statement_refusal, statement_reply};
     ghost use Rattle.account_history.specs.Histories.{history, moment, noted};
     ghost use Rattle.account_history.specs.Legal.{IsExecuted, IsLegal, changes_accounts, last_count};
+    ghost use Rattle.account_history.specs.Sound.{IsWritten};
     ghost use Rattle.account_history.specs.Stamps.{stamp};
     ghost use Rattle.account_history.specs.declared.entries.Entry.TheVariants.{Attempted, Executed, Observed};
     ghost use Rattle.account_history.specs.declared.entries.StmtReply.TheVariants.{Refused};
@@ -57,13 +64,15 @@ impl Accounts {
     ghost use Rattle.account_machine.specs.Agreeing.{Agrees};
     ghost use Rattle.account_machine.specs.Committing.{execution_of, has_failed, told_after};
     ghost use Rattle.account_machine.specs.Labels.{ShowsFewLabels};
-    ghost use Rattle.account_machine.specs.Loading.{AreLoadable, IsFault, IsLoaded, Loads, loaded};
+    ghost use Rattle.account_machine.specs.Loading.{AreLoadable, IsFault, IsFirstBad, IsLoaded, Loads, Refuses, loaded};
     ghost use Rattle.account_machine.specs.Openings.{are_openings, opening_start};
-    ghost use Rattle.account_machine.specs.Preparing.{who_of};
+    ghost use Rattle.account_history.specs.Preparing.{who_of};
     ghost use Rattle.account_rules.specs.declared.accounts.Account.{Account};
     ghost use Rattle.lg_outside.specs.Faults.{Rose};
     ghost use Rattle.lg_outside.specs.Keeping.{Ascend};
-    ghost use Rattle.std.specs.Prelude.{◌≡◌, ◌≤◌, max, [], None, IfErr, IfOk, IfSome, IsTrue, List, OnErr};
+    ghost use Rattle.sha256_crypt.specs.Alphabet.{IsSaltByte};
+    ghost use Rattle.std.specs.List.{All};
+    ghost use Rattle.std.specs.Prelude.{◌≡◌, ◌≤◌, max, [], None, IfErr, IfOk, IfSome, IsTrue, List, OnErr, ℕ};
 
     /// The accounts of a start: `'root'@'localhost'` with number 1, without a password and with both
     /// privileges, and a native account at `localhost` for each of `extra`, with the next numbers. Each
@@ -74,6 +83,8 @@ impl Accounts {
     {
         let rows = opening_rows(alloc, extra)?;
         let last = extra.len() as u64 + 1;
+        let mut digests = Digests::new(alloc);
+        make_room(&mut digests, rows.len())?;
         Ok(Accounts {
             rows,
             settings,
@@ -83,6 +94,7 @@ impl Accounts {
                 credential: last,
             },
             stamps: Stamps::new(alloc),
+            digests,
             changes: 0,
             log: GhostValue::of(&StartNote { extra, settings }),
         })
@@ -100,8 +112,11 @@ impl Accounts {
         ensures loaded { IfOk result (IsLoaded rows.now settings) }
         ensures bad { IfErr result (IsFault rows.now) }
         ensures found { (accounts : List Account) → AreLoadable rows.now accounts → Loads (λ made. made ≡ loaded accounts settings) result }
+        ensures first { (key : ℕ) → IsFirstBad rows.now key → Refuses key result }
     {
         let made = load_rows(alloc, rows)?;
+        let mut digests = Digests::new(alloc);
+        make_room(&mut digests, made.rows.len())?;
         let log = GhostValue::of(&LoadNote {
             rows: made.rows.as_slice(),
             settings,
@@ -112,6 +127,7 @@ impl Accounts {
             moment: made.moment,
             numbers: made.numbers,
             stamps: Stamps::new(alloc),
+            digests,
             changes: 0,
             log,
         })
@@ -136,7 +152,13 @@ impl Accounts {
     {
         let _log = &self.log;
         let _changes = self.changes;
-        look_at(alloc, self.rows.as_slice(), &self.stamps, who)
+        look_at(
+            alloc,
+            self.rows.as_slice(),
+            &self.digests,
+            &self.stamps,
+            who,
+        )
     }
 
     /// Notes that a look was answered. It has no effect but the entry of the history.
@@ -202,7 +224,15 @@ impl Accounts {
     {
         let now = self.moment.max(reading);
         let settings = self.settings;
-        let reply = attempt_on(&mut self.rows, &settings, user, evidences, flags, now);
+        let reply = attempt_on(
+            &mut self.rows,
+            &mut self.digests,
+            &settings,
+            user,
+            evidences,
+            flags,
+            now,
+        );
         self.moment = now;
         self.log = GhostValue::of(&AttemptNote {
             log: &self.log,
@@ -218,8 +248,8 @@ impl Accounts {
     /// Executes an account statement that the account with the number `actor` asks for. `salt` is what a new password of
     /// the caching method takes. The statement is refused, or done, or the keeper fails; where there is a refusal, the
     /// keeper isn't called. After `Memory` nothing has changed, neither here nor at the keeper. `Memory` is also answered
-    /// where a number, or the count of changes, is at the end of its type, and where the account that the statement
-    /// makes has no record.
+    /// where a number, or the count of changes, is at the end of its type. The statement is one that the grammar gives, and
+    /// the salt is of the alphabet of salts.
     pub fn commit_here<K: Keeper>(
         &mut self,
         alloc: Global,
@@ -229,7 +259,9 @@ impl Accounts {
         reading: u64,
         keeper: &mut K,
     ) -> Result<StmtReply, Memory>
-        requires { last_count (history self.old) ≤ K.fault_count keeper.old }
+        requires written { IsWritten statement.now }
+        requires letters { All IsSaltByte salt.now }
+        requires count { last_count (history self.old) ≤ K.fault_count keeper.old }
         ensures entry { IfOk result (λ reply. self.new ≡ noted self.old (Executed
             (execution_of (history self.old) statement.now salt.now actor reading (K.fault_count keeper.new) reply))) }
         ensures reply { IfOk result (λ reply. reply ≡ statement_reply (history self.old) statement.now actor reading
@@ -360,6 +392,8 @@ impl Accounts {
         keeper: &mut K,
     ) -> Result<StmtReply, Memory>
         requires refusal { statement_refusal (history self.old) statement.now actor reading ≡ None }
+        requires written { IsWritten statement.now }
+        requires letters { All IsSaltByte salt.now }
         requires count { last_count (history self.old) ≤ K.fault_count keeper.old }
         ensures entry { IfOk result (λ reply. self.new ≡ noted self.old (Executed
             (execution_of (history self.old) statement.now salt.now actor reading (K.fault_count keeper.new) reply))) }
@@ -380,6 +414,7 @@ impl Accounts {
             alloc,
             &mut self.rows,
             &mut self.stamps,
+            &mut self.digests,
             &self.numbers,
             statement,
             salt,

@@ -20,6 +20,3 @@ pub use exchange::{More, NextFactor, Switch};
 pub use fault::PacketFault;
 pub use handshake::{Greeting, Response};
 pub use replies::{EofPacket, ErrPacket, OkPacket};
-
-#[cfg(test)]
-mod tests;

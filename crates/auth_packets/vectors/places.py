@@ -1,7 +1,8 @@
 #!/usr/bin/env python3
 """Prints what packet_probe is asked (`places.py stdin`) and what it has to answer (`places.py stdout`): payloads
 of each message, each cut, and each with one byte made 00 or ff; the fields of what a payload spells and the
-payload that is written of them, or the place at which a reader must stop.
+payload that is written of them, or the place at which a reader must stop. Then each byte that another command
+may begin with, or may not.
 
 It shares nothing with the crate: a recogniser of whole payloads that knows no places gives the fields, a writer
 of each message lays them out again, and for the places each front of a payload is tried with a list of ends, a
@@ -311,6 +312,10 @@ def answer(kind, payload):
     return shown(fields) + ('same' if out == payload else 'written=' + out.hex())
 
 
+# COM_QUIT, COM_QUERY, COM_PING, COM_CHANGE_USER and COM_RESET_CONNECTION.
+KNOWN = {0x01, 0x03, 0x0e, 0x11, 0x1f}
+
+
 def payloads():
     """The kinds and payloads, in the order in which they are asked."""
     for kind, (_, samples) in SAMPLES.items():
@@ -328,6 +333,9 @@ def main():
     wanted = sys.argv[1]
     for kind, payload in payloads():
         print('%s %s' % (kind, payload.hex()) if wanted == 'stdin' else answer(kind, payload))
+    for first in range(256):
+        known = first in KNOWN
+        print('other %02x' % first if wanted == 'stdin' else 'not whole' if known else 'whole')
 
 
 main()

@@ -13,5 +13,3 @@ pub use stored::{Sha2Stored, is_salt_byte, read_stored, write_stored};
 
 mod fast;
 mod stored;
-#[cfg(test)]
-mod tests;

@@ -17,8 +17,6 @@ pub mod clients;
 pub mod ends;
 pub mod held_client;
 pub mod laws;
-#[cfg(test)]
-mod tests;
 pub mod words;
 
 pub use ends::ClientEnd;

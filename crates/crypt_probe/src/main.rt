@@ -1,6 +1,7 @@
-//! Prints sums of SHA-256 crypt for comparison with other implementations, as interop/crypt_check
-//! does. Each line of input is `PASSWORD SALT ROUNDS`, the first two in hexadecimal or `-` where
-//! they are empty, and is answered by its sum, or by `bad` where it isn't of this form.
+//! Prints sums of SHA-256 crypt, as tests of `sha256_crypt` and for comparison with other implementations, as
+//! interop/crypt_check does. Each line of input is `PASSWORD SALT ROUNDS`, the first two in hexadecimal or `-` where they are
+//! empty, and is answered by its sum, or by `bad` where it isn't of this form. The lines and their answers come from
+//! interop/crypt_vectors.py.
 #![tactic(auto)]
 
 use sha256_crypt::crypt;

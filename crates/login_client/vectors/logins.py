@@ -151,6 +151,41 @@ def failing():
     yield HERE, 9, sent, 'opened', packets(ANSWER, NATIVE_2)
 
 
+# The words that loginctl prints of an end.
+WORDS = {'peer closed': 'closed', 'link fault': 'linkfault', 'no secret': 'wontsend nosecret',
+         'unknown method': 'wontsend unknownmethod', 'not local': 'wontsend notlocal',
+         'clear not permitted': 'wontsend notpermitted'}
+
+
+def words_of(end):
+    if end in WORDS:
+        return WORDS[end]
+    said = end.split(' ')
+    if said[0] == 'malformed':
+        return 'malformed ' + said[-1]
+    if 'for' in said or said[0] == 'too':
+        return 'framing ' + said[-1]
+    return end
+
+
+ANSWERED = packets(ANSWER)
+
+# What a client is given that may be cut anywhere, what it comes to, and what it writes. Bytes behind the end are left, also
+# where they are out of order; the header of a payload that is too long is enough.
+CUTS = [
+    (packets((0, NATIVE)), 'waits', ANSWERED),
+    (packets((0, NATIVE), (2, OK)), 'opened', ANSWERED),
+    (packets((0, NATIVE), (2, ERR)), 'refused 1045', ANSWERED),
+    (packets((0, ERR)), 'refused 1045', b''),
+    (packets((1, NATIVE)), 'framing 0', b''),
+    (packets((0, NATIVE), (1, OK)), 'framing 83', ANSWERED),
+    (packets((0, NATIVE), (2, OK), (3, ERR), (9, ERR)), 'opened', ANSWERED),
+    (packets((0, NATIVE), (2, OK), (9, ERR)), 'opened', ANSWERED),
+    (b'\x01\x00\x10\x00', 'framing 0', b''),
+    (b'\x00\x00\x10\x00', 'waits', b''),
+]
+
+
 def main():
     wanted = sys.argv[1]
     for group in [endings, switches, secrets_in_the_clear, further_factors, misplaced, no_packets, failing]:
@@ -158,7 +193,9 @@ def main():
             if wanted == 'stdin':
                 print(place, call, sent.hex())
             else:
-                print('%s faults %d written %s' % (end, end == 'link fault', written.hex()))
+                print('%s words %s faults %d written %s' % (end, words_of(end), end == 'link fault', written.hex()))
+    for sent, end, written in CUTS:
+        print('cut ' + sent.hex() if wanted == 'stdin' else '%s written %s' % (end, written.hex()))
 
 
 main()

@@ -106,6 +106,3 @@ fn xor(left: &[u8; 20], right: &[u8; 20]) -> [u8; 20]
     }
     joined
 }
-
-#[cfg(test)]
-mod tests;

@@ -49,3 +49,12 @@ pub fn command(rt: &HostRuntime, payload: &[u8]) -> io::Result<()> {
         Ok(_) => println!(rt; "not whole"),
     }
 }
+
+/// Whether another command may begin with the byte, which no payload spells for those that are known.
+pub fn other(rt: &HostRuntime, payload: &[u8]) -> io::Result<()> {
+    match payload {
+        [first] if (Command::Other { first: *first }).is_whole() => println!(rt; "whole"),
+        [_] => println!(rt; "not whole"),
+        _ => println!(rt; "no byte"),
+    }
+}

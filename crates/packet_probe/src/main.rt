@@ -1,7 +1,7 @@
 //! Reads messages of a login, one a line, as tests of `auth_packets`: a line is `KIND HEX`, the kind of message
 //! and the payload. It is answered by the message's fields and what `write` makes of it (`same` where that is the
-//! payload), or by the place at which no message fits. The lines and their answers come from
-//! auth_packets/vectors/places.py.
+//! payload), or by the place at which no message fits. `other HEX` is answered by whether another command may begin
+//! with the byte. The lines and their answers come from auth_packets/vectors/places.py.
 #![tactic(auto)]
 
 mod commands;
@@ -23,6 +23,7 @@ fn answer(rt: &HostRuntime, kind: &str, payload: &[u8]) -> io::Result<()> {
         "eof" => replies::eof(rt, payload),
         "change" => commands::change_user(rt, payload),
         "command" => commands::command(rt, payload),
+        "other" => commands::other(rt, payload),
         _ => println!(rt; "no kind"),
     }
 }

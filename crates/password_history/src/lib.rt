@@ -11,6 +11,3 @@ pub mod laws;
 pub mod reuse;
 
 pub use reuse::{forbids, full, remember, used};
-
-#[cfg(test)]
-mod tests;

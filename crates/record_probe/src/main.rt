@@ -1,9 +1,10 @@
 //! Reads records of accounts, one a line, as tests of `account_keeper`: a line is `KEY HEX`, the key of a row and
 //! its bytes. It is answered by `bad`, or by the account and what is written of it (`same` where that is the
-//! row's bytes) after its credentials got other ids. The lines and their answers come from
-//! account_keeper/vectors/records.py.
+//! row's bytes) after its credentials got other ids. Lines that begin with `keeper` are the calls of a keeper in memory.
+//! The lines and their answers come from account_keeper/vectors/records.py.
 #![tactic(auto)]
 
+mod keeping;
 mod printing;
 
 use account_keeper::{RecordFault, fits_record, read_record, write_record};
@@ -48,14 +49,26 @@ fn answer(rt: &HostRuntime, key: u64, bytes: &[u8]) -> io::Result<()> {
     }
 }
 
+fn answer_record(rt: &HostRuntime, key: &str, text: &str) -> io::Result<()> {
+    let key = key.parse::<u64>().unwrap_or(0);
+    match hex::decode(rt.alloc(), text) {
+        Ok(bytes) => answer(rt, key, bytes.as_slice()),
+        Err(_) => println!(rt; "no record"),
+    }
+}
+
 fn main(rt: HostRuntime) -> io::Result<()> {
+    let mut keeper = keeping::new_keeper(&rt, &[1, 2, 4, 6])?;
     for line in rt.lines(rt.alloc()) {
         let line = line?;
-        let (key, text) = line.as_str().split_once(' ').unwrap_or(("", ""));
-        let key = key.parse::<u64>().unwrap_or(0);
-        match hex::decode(rt.alloc(), text) {
-            Ok(bytes) => answer(&rt, key, bytes.as_slice())?,
-            Err(_) => println!(rt; "no record")?,
+        let words: Vec<&str> = line.as_str().split(' ').collect(rt.alloc())?;
+        match words.as_slice() {
+            ["keeper", "new"] => {
+                keeper = keeping::new_keeper(&rt, &[])?;
+            }
+            ["keeper", call @ ..] => keeping::answer(&rt, &mut keeper, call)?,
+            [key, text] => answer_record(&rt, *key, *text)?,
+            _ => println!(rt; "no record")?,
         }
     }
     Ok(())

@@ -20,8 +20,6 @@ use rounds::after_rounds;
 mod digests;
 mod encoding;
 mod rounds;
-#[cfg(test)]
-mod tests;
 
 /// The sum of a password under a salt: SHA-256 crypt, in so many rounds.
 pub fn crypt(password: &[u8], salt: &[u8], rounds: u32) -> [u8; 43]

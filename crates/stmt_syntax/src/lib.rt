@@ -90,6 +90,3 @@ pub fn print(statement: &Statement, out: &mut Out) -> Result<(), Memory>
     printing::put_statement(statement, &mut text)?;
     out.bytes(text.as_slice())
 }
-
-#[cfg(test)]
-mod tests;

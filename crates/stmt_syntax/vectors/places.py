@@ -360,9 +360,26 @@ def cases():
             yield 'print', odd(draw, words_), shown
 
 
+# Texts of a mebibyte: front, part, how often it stands, back, and what is printed of the whole or the place.
+LONG = [
+    (b"DROP USER '", b"ab", 524288, b"'", b"DROP USER '" + b"ab" * 524288 + b"'@'%'"),
+    (b"ALTER USER a", b" ACCOUNT LOCK", 80660, b"", b"ALTER USER 'a'@'%' ACCOUNT LOCK"),
+    (b"ALTER USER a", b" ACCOUNT LOCK", 80660, b" x", 1048593),
+]
+
+
+def long_answer(answer):
+    return answer if isinstance(answer, int) else '%d %s' % (len(answer), answer[-20:].hex())
+
+
 def main():
     for kind, text, answer in cases():
         print('%s %s' % (kind, text.hex()) if sys.argv[1] == 'stdin' else answer)
+    for front, part, count, back, answer in LONG:
+        if sys.argv[1] == 'stdin':
+            print('long', front.hex(), part.hex(), count, back.hex())
+        else:
+            print(long_answer(answer))
 
 
 main()
