@@ -28,3 +28,5 @@ bench:
 	@bench/statements
 	@cd crates/turn_probe && rt run < stdin > /dev/null
 	@bench/turns
+	@cd crates/machine_probe && rt run < stdin > /dev/null
+	@bench/machine
