@@ -31,3 +31,5 @@ bench:
 	@cd crates/keeper_probe && rt run < stdin > /dev/null
 	@cd crates/socket_probe && rt run < stdin > /dev/null
 	@bench/edge
+	@cd crates/machine_probe && rt run < stdin > /dev/null
+	@bench/machine

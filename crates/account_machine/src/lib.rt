@@ -26,8 +26,6 @@ mod refusals;
 pub mod rows;
 pub mod stamps;
 mod targets;
-#[cfg(test)]
-mod tests;
 mod verdicts;
 
 pub use account_history::{Opening, Prepared, Reply, StmtReply, Who, prepare};
