@@ -1,0 +1,5 @@
+pub mod Beginnings
+pub mod Calls
+pub mod Desks
+pub mod Sharing
+pub mod Tickets
