@@ -24,7 +24,6 @@ use Rattle.account_history.specs.declared.entries.Who.TheVariants as who
 use Rattle.account_history.proofs.Numbered.{numbers-stay-gone, passing, rise-of}
 use Rattle.account_history.proofs.Unchanged.{stamps-tell}
 use Rattle.account_machine.specs.Agreeing.{Agrees, undigested, undigested_account, undigested_look}
-use Rattle.account_machine.proofs.Executed.{found-above}
 use Rattle.shared_accounts.specs.Beginnings.{history_of}
 use Rattle.shared_accounts.specs.Calls.{Came, WasGiven}
 use Rattle.shared_accounts.specs.declared.desk.Begun.{Begun}
@@ -100,34 +99,38 @@ module _ (user : List ℕ) (other : Kept → Bool) where
 
 pub found-is : (test : Account → Bool) (accounts : List Account) (a : Account) → find test accounts ≡ Some a → test a ≡ true
 found-is test [] a e = absurd (cc)
-found-is test (x ∷ xs) a e = cases (test x) refl e where
-  cases : (b : Bool) → test x ≡ b → cond b (Some x) (find test xs) ≡ Some a → test a ≡ true
-  cases true t e = let same : x ≡ a = cc in ap test (sym same) ∙ t
-  cases false t e = found-is test xs a e
+found-is test (x ∷ xs) a e = cases (test x) (found-is test xs a) refl e where
+  cases : (b : Bool) → (find test xs ≡ Some a → test a ≡ true) → test x ≡ b → cond b (Some x) (find test xs) ≡ Some a → test a ≡ true
+  cases true later t e = let same : x ≡ a = cc in ap test (sym same) ∙ t
+  cases false later t e = later e
+
+-- an account behind others has a greater number
+found-above : (test : Account → Bool) (low : ℕ) (xs : List Account) (a : Account) → Rise low xs → find test xs ≡ Some a → low < a.id
+found-above test low [] a r e = absurd (cc)
+found-above test low (x ∷ xs) a r e = cases (test x) e (λ f. found-above test x.id xs a r.1 f) where
+  cases : (b : Bool) → cond b (Some x) (find test xs) ≡ Some a → (find test xs ≡ Some a → x.id < a.id) → low < a.id
+  cases true e later = let same : x ≡ a = cc in subst (λ (y : Account). low < y.id) same r.0
+  cases false e later = let h = later e in let k : low < x.id = r.0 in omega arith
 
 -- the first that passes one test and passes another too is the first that passes both
 first-both : (one two : Account → Bool) (accounts : List Account) (a : Account) → find one accounts ≡ Some a → two a ≡ true
     → find (λ x. two x && one x) accounts ≡ Some a
 first-both one two [] a e t = absurd (cc)
-first-both one two (x ∷ xs) a e t = cases (one x) (two x) refl refl e where
-  later : find one xs ≡ Some a → find (λ y. two y && one y) xs ≡ Some a
-  later f = first-both one two xs a f t
-
-  cases : (b c : Bool) → one x ≡ b → two x ≡ c → cond b (Some x) (find one xs) ≡ Some a
+first-both one two (x ∷ xs) a e t = cases (one x) (two x) (λ f. first-both one two xs a f t) refl refl e where
+  cases : (b c : Bool) → (find one xs ≡ Some a → find (λ y. two y && one y) xs ≡ Some a) → one x ≡ b → two x ≡ c → cond b (Some x) (find one xs) ≡ Some a
       → cond (c && b) (Some x) (find (λ y. two y && one y) xs) ≡ Some a
-  cases true true o w e = e
-  cases true false o w e = let same : x ≡ a = cc in absurd (let f : two a ≡ false = ap two (sym same) ∙ w in cc)
-  cases false true o w e = later e
-  cases false false o w e = later e
+  cases true true later o w e = e
+  cases true false later o w e = let same : x ≡ a = cc in absurd (let f : two a ≡ false = ap two (sym same) ∙ w in cc)
+  cases false true later o w e = later e
+  cases false false later o w e = later e
 
 -- where numbers rise, an account with a number that passes another test too is the one with that number
 only-one : (id : ℕ) (two : Account → Bool) (low : ℕ) (accounts : List Account) (a : Account) → Rise low accounts → find (λ x. two x && has_id id x) accounts ≡ Some a
     → find (has_id id) accounts ≡ Some a
 only-one id two low [] a r e = absurd (cc)
-only-one id two low (x ∷ xs) a r e = cases (two x) (has_id id x) refl refl e where
-  others : find (λ y. two y && has_id id y) xs ≡ Some a → find (has_id id) (x ∷ xs) ≡ Some a
-  others f =
-      let later = only-one id two x.id xs a r.1 f in
+only-one id two low (x ∷ xs) a r e = cases (two x) (has_id id x) (λ f. others (only-one id two x.id xs a r.1 f)) refl refl e where
+  others : find (has_id id) xs ≡ Some a → find (has_id id) (x ∷ xs) ≡ Some a
+  others later =
       let above = found-above (has_id id) x.id xs a r.1 later in
       let its = found-is (has_id id) xs a later in
       no-first (has_id id x) refl above its later where
@@ -135,11 +138,11 @@ only-one id two low (x ∷ xs) a r e = cases (two x) (has_id id x) refl refl e w
         no-first true t above its later = absurd (omega (arith, eqb-true x.id id t, eqb-true a.id id its))
         no-first false t above its later = later
 
-  cases : (c b : Bool) → two x ≡ c → has_id id x ≡ b → cond (c && b) (Some x) (find (λ y. two y && has_id id y) xs) ≡ Some a
+  cases : (c b : Bool) → (find (λ y. two y && has_id id y) xs ≡ Some a → find (has_id id) (x ∷ xs) ≡ Some a) → two x ≡ c → has_id id x ≡ b → cond (c && b) (Some x) (find (λ y. two y && has_id id y) xs) ≡ Some a
       → find (has_id id) (x ∷ xs) ≡ Some a
-  cases true true w o e = ap (λ t. cond t (Some x) (find (has_id id) xs)) o ∙ e
-  cases true false w o e = others e
-  cases false b w o e = others e
+  cases true true later w o e = ap (λ t. cond t (Some x) (find (has_id id) xs)) o ∙ e
+  cases true false later w o e = later e
+  cases false b later w o e = later e
 
 -- ## Looks
 

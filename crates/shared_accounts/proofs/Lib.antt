@@ -1,3 +1,4 @@
 pub mod Placed
 pub mod Agreed
+pub mod Desked
 pub mod Turning

@@ -17,7 +17,7 @@ use Rattle.account_history.specs.declared.entries.Entry.{Entry}
 use Rattle.account_history.specs.declared.entries.Entry.TheVariants.{Observed, Attempted, Executed}
 use Rattle.account_history.specs.declared.entries.Who.{Who}
 use Rattle.account_history.specs.declared.entries.Who.TheVariants as who
-use Rattle.account_history.proofs.Numbered.{given-more, given-more-in, gone-changed, gone-created, gone-without, passing, same-id}
+use Rattle.account_history.proofs.Numbered.{given-more-in, gone-changed, gone-created, gone-without, passing, same-id}
 use Rattle.account_history.proofs.OneMore.{stamp-more}
 use Rattle.shared_accounts.specs.Beginnings.{history_of}
 use Rattle.shared_accounts.specs.Calls.{Came, WasGiven}
@@ -40,11 +40,11 @@ placed-answer h xs e ys l = (legal-front (after_entries h xs ▹ e) ys (subst Is
 
 -- an element stands between two parts of the list
 pub split-at : {X : Type 0} (xs : List X) (x : X) → Contains xs x → (before after : List X) × (xs ≡ before ++ x ∷ after)
-split-at xs x c = at xs c.0 c.1 c.2 where
-  at : (xs : List X) (k : ℕ) → k < length xs → slice_index_or xs k x ≡ x → (before after : List X) × (xs ≡ before ++ x ∷ after)
-  at [] k l e = absurd (omega arith)
-  at (y ∷ xs) zero l e = ([], xs, ap (λ (z : X). z ∷ xs) e)
-  at (y ∷ xs) (suc k) l e = let later = at xs k (omega arith) e in (y ∷ later.0, later.1, ap (λ (zs : List X). y ∷ zs) later.2)
+split-at xs x c = at x xs c.0 c.1 c.2 where
+  at : {X : Type 0} (x : X) (xs : List X) (k : ℕ) → k < length xs → slice_index_or xs k x ≡ x → (before after : List X) × (xs ≡ before ++ x ∷ after)
+  at x [] k l e = absurd (omega arith)
+  at x (y ∷ xs) zero l e = ([], xs, ap (λ z. z ∷ xs) e)
+  at x (y ∷ xs) (suc k) l e = let later = at x xs k (omega arith) e in (y ∷ later.0, later.1, ap (λ zs. y ∷ zs) later.2)
 
 -- ## Stamps
 
@@ -100,22 +100,34 @@ never-given : (h : History) (id : ℕ) → (given h).account < id → find (has_
 never-given (From start) id l = never-begun start.accounts id l
 never-given (h ▹ Observed w look) id l = never-given h id l
 never-given (h ▹ Attempted t) id l = never-given h id l
-never-given (h ▹ Executed x) id l = cases (is_done x.reply) l where
-  cases : (b : Bool) → (if b then given_after (given h) x.statement else given h).account < id
+never-given (h ▹ Executed x) id l = cases (is_done x.reply) (never-given h id) l where
+  cases : (b : Bool) → ((given h).account < id → find (has_id id) (records h) ≡ None) → (if b then given_after (given h) x.statement else given h).account < id
       → find (has_id id) (if b then effect_of x.statement (given h) x.actor x.salt (max x.reading (moment h)) (records h) else records h) ≡ None
-  cases true l =
+  cases true before l =
       let more = given-more-in (given h) x.statement in
-      never-effect x.statement (given h) x.actor x.salt _ (records h) id l (never-given h id (omega arith))
-  cases false l = never-given h id l
+      never-effect x.statement (given h) x.actor x.salt _ (records h) id l (before (omega arith))
+  cases false before l = before l
+
+given-more : (h : History) (entry : Entry) → (given h).account ≤ (given (h ▹ entry)).account
+given-more h (Observed w look) = omega arith
+given-more h (Attempted t) = omega arith
+given-more h (Executed x) = cases (is_done x.reply) (given-more-in (given h) x.statement) where
+  cases : (b : Bool) → (given h).account ≤ (given_after (given h) x.statement).account
+      → (given h).account ≤ (if b then given_after (given h) x.statement else given h).account
+  cases true more = more
+  cases false more = omega arith
 
 given-later : (h : History) (entries : List Entry) → (given h).account ≤ (given (after_entries h entries)).account
 given-later h [] = omega arith
 given-later h (entry ∷ entries) = let now = given-more h entry in let later = given-later (h ▹ entry) entries in omega arith
 
 stood-given : (h : History) (id : ℕ) → IsSome (find (has_id id) (records h)) → id ≤ (given h).account
-stood-given h id s = not_less (λ l. subst IsSome (never-given h id l) s) where
-  not_less : ((given h).account < id → ⊥) → id ≤ (given h).account
-  not_less f = grind (arith, f)
+stood-given h id s = not-less (id) (given h).account (λ l. nobody (find (has_id id) (records h)) (never-given h id l) s) where
+  nobody : (found : Option Account) → found ≡ None → IsSome found → ⊥
+  nobody found e s = let there : IsSome {T = Account} None = subst (λ x. IsSome x) e s in absurd (grind (there))
+
+  not-less : (n m : ℕ) → (m < n → ⊥) → n ≤ m
+  not-less n m f = grind (arith, f)
 
 -- ## Looks of a legal history
 
