@@ -4,6 +4,7 @@ pub mod Grammatical
 pub mod Moments
 pub mod Numbered
 pub mod OneMore
+pub mod Recalled
 pub mod Running
 pub mod Soundness
 pub mod Unchanged

@@ -6,16 +6,17 @@ use Rattle.std.proofs.lemmas.List.Elements.{filter-append}
 use Rattle.std.proofs.lemmas.List.Folds.{list_any-append}
 use Rattle.login_lock.specs.declared.LockRule.{LockRule}
 use Rattle.login_lock.specs.Lock.{after, is_blocked, is_over, locked_at, tracks}
-use Rattle.account_history.specs.Failures.{Step, after_last, failures_in, from_last, no_step}
+use Rattle.account_history.specs.Failures.{Step, failures_in, from_last, no_step}
+use Rattle.account_history.specs.Searching.{after_last}
 
 -- a test of a list with one element more
-any-more : (p : Step → Bool) (xs : List Step) (y : Step) → list_any p (xs ++ y ∷ []) ≡ (list_any p xs || p y)
+any-more : {T : Type 0} (p : T → Bool) (xs : List T) (y : T) → list_any p (xs ++ y ∷ []) ≡ (list_any p xs || p y)
 any-more p xs y = list_any-append p xs (y ∷ []) ∙ ap (λ b. list_any p xs || b) (or_false (p y)) where
   or_false : (b : Bool) → (b || false) ≡ b
   or_false true = refl
   or_false false = refl
 
-pub after_last-more : (p : Step → Bool) (xs : List Step) (y : Step)
+pub after_last-more : {T : Type 0} (p : T → Bool) (xs : List T) (y : T)
     → after_last p (xs ++ y ∷ []) ≡ (if p y then [] else after_last p xs ++ y ∷ [])
 after_last-more p [] y = refl
 after_last-more p (x ∷ xs) y =

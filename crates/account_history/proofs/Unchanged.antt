@@ -22,7 +22,7 @@ use Rattle.account_history.specs.Passwords.{with_password}
 use Rattle.account_history.specs.Records.{records}
 use Rattle.account_history.specs.Stamps.{clears, clears_user, is_of_user, stamp}
 use Rattle.account_history.specs.Targets.{is_target, of_account}
-use Rattle.account_history.specs.Telling.{Kept, StampsTell, is_of, kept}
+use Rattle.account_history.specs.Telling.{Kept, is_of, kept}
 use Rattle.account_history.proofs.OneMore.{stamp-more}
 
 -- what a user's accounts are, but for options and privileges
@@ -31,7 +31,7 @@ own user accounts = filter (is_of user) (map kept accounts)
 
 -- ## The account in force is one of the user's own
 
-abbrev is_kept_at : List ℕ → Host → Kept → Bool
+abbrev pub is_kept_at : List ℕ → Host → Kept → Bool
 is_kept_at user host k = is_of user k && same_host k.name.host host
 
 find-own : (user : List ℕ) (host : Host) (accounts : List Account)
@@ -51,10 +51,10 @@ or-else-map : (x y : Option Account) → option_map kept (or_else x y) ≡ or_el
 or-else-map None y = refl
 or-else-map (Some x) y = refl
 
-abbrev own_force : List ℕ → List Kept → Option Kept
+abbrev pub own_force : List ℕ → List Kept → Option Kept
 own_force user ks = or_else (find (is_kept_at user host.Localhost) ks) (find (is_kept_at user host.Any) ks)
 
-force-own : (user : List ℕ) (accounts : List Account) → option_map kept (in_force accounts user) ≡ own_force user (own user accounts)
+pub force-own : (user : List ℕ) (accounts : List Account) → option_map kept (in_force accounts user) ≡ own_force user (own user accounts)
 force-own user accounts =
     or-else-map (find (is_at user host.Localhost) accounts) (find (is_at user host.Any) accounts)
     ∙ ap (λ x. or_else x (option_map kept (find (is_at user host.Any) accounts))) (find-own user host.Localhost accounts)
@@ -106,7 +106,7 @@ same-name (Add n factor) id salt now a = refl
 same-name (Modify n factor) id salt now a = refl
 same-name (DropFactor n) id salt now a = refl
 
-named-other : (user : List ℕ) (name : Name) → bytes_eq name.user user ≡ false → (a : Account) → is_named name a ≡ true
+pub named-other : (user : List ℕ) (name : Name) → bytes_eq name.user user ≡ false → (a : Account) → is_named name a ≡ true
     → bytes_eq a.name.user user ≡ false
 named-other user name e a f =
     let same : a.name.user ≡ name.user = (bytes_eq-Decides a.name.user name.user).0 (and-left (bytes_eq a.name.user name.user) (same_host a.name.host name.host) f) in
@@ -139,7 +139,7 @@ effect-own Flush g actor salt now accounts user e = absurd (cc)
 effect-own (Grant privileges name) g actor salt now accounts user e = changed-kept user (is_named name) (granted privileges) (λ a. refl) accounts
 effect-own (Revoke privileges name) g actor salt now accounts user e = changed-kept user (is_named name) (revoked privileges) (λ a. refl) accounts
 
-entry-own : (h : History) (entry : Entry) (user : List ℕ) → clears h entry user ≡ false → own user (records (h ▹ entry)) ≡ own user (records h)
+pub entry-own : (h : History) (entry : Entry) (user : List ℕ) → clears h entry user ≡ false → own user (records (h ▹ entry)) ≡ own user (records h)
 entry-own h (Observed who look) user e = refl
 entry-own h (Attempted t) user e = refl
 entry-own h (Executed x) user e = cases (is_done x.reply) e where
@@ -155,26 +155,17 @@ stamp-rises h [] user = omega arith
 stamp-rises h (entry ∷ entries) user =
     let one = stamp-more h entry user in let rest = stamp-rises (h ▹ entry) entries user in omega arith
 
-not-cleared : (h : History) (entry : Entry) (entries : List Entry) (user : List ℕ) → stamp (after_entries (h ▹ entry) entries) user ≡ stamp h user
+pub not-cleared : (h : History) (entry : Entry) (entries : List Entry) (user : List ℕ) → stamp (after_entries (h ▹ entry) entries) user ≡ stamp h user
     → clears h entry user ≡ false
 not-cleared h entry entries user e = cases (clears h entry user) (stamp-rises (h ▹ entry) entries user) where
   cases : (b : Bool) → (if b then stamp h user + 1 else stamp h user) ≤ stamp (after_entries (h ▹ entry) entries) user → b ≡ false
   cases true f = absurd (omega (arith, e, f))
   cases false f = refl
 
-own-same : (h : History) (entries : List Entry) (user : List ℕ) → stamp (after_entries h entries) user ≡ stamp h user
+pub own-same : (h : History) (entries : List Entry) (user : List ℕ) → stamp (after_entries h entries) user ≡ stamp h user
     → own user (records (after_entries h entries)) ≡ own user (records h)
 own-same h [] user e = refl
 own-same h (entry ∷ entries) user e =
     let still = not-cleared h entry entries user e in
     let same : stamp (h ▹ entry) user ≡ stamp h user = ap (λ (b : Bool). if b then stamp h user + 1 else stamp h user) still in
     own-same (h ▹ entry) entries user (e ∙ sym same) ∙ entry-own h entry user still
-
-pub stamps-tell : StampsTell
-stamps-tell h entries user e =
-    let same = own-same h entries user e in
-    record {
-      accounts = same;
-      stands = force-own user (records (after_entries h entries)) ∙ ap (own_force user) same ∙ sym (force-own user (records h));
-      digests = λ id digest its d. d;
-    }

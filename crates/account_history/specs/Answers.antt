@@ -68,25 +68,25 @@ abbrev pub attempt_reply : History → List ℕ → List Evidence → ℕ → �
 attempt_reply h user evidences flags reading =
     reply_for h (in_force (records h) user) evidences flags (max reading (moment h))
 
--- what a look shows of an account
-abbrev pub shown : History → List PastRecord → Account → InForce
-shown h past account = record {
+-- what a look shows of an account, with the digests that are known
+abbrev pub shown : (digests : ℕ → Option (List ℕ)) → List PastRecord → Account → InForce
+shown digests past account = record {
   account = account.id;
   name = account.name;
   method = account.method;
-  primary = primary_of (known h) account;
-  secondary = secondary_of (known h) account;
+  primary = primary_of digests account;
+  secondary = secondary_of digests account;
   labels = account.labels;
   past = past;
 }
 
 abbrev pub shown_login : History → Option Account → Option InForce
 shown_login h None = None
-shown_login h (Some account) = Some (shown h [] account)
+shown_login h (Some account) = Some (shown (known h) [] account)
 
 abbrev pub shown_whole : History → Option Account → Option InForce
 shown_whole h None = None
-shown_whole h (Some account) = Some (shown h account.past account)
+shown_whole h (Some account) = Some (shown (known h) account.past account)
 
 abbrev pub user_of : Option Account → List ℕ
 user_of None = []

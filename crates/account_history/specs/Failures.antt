@@ -14,13 +14,13 @@ use Rattle.account_history.specs.declared.entries.Attempt.{Attempt}
 use Rattle.account_history.specs.declared.entries.Entry.{Entry}
 use Rattle.account_history.specs.declared.entries.Entry.TheVariants.{Observed, Attempted, Executed}
 use Rattle.account_history.specs.declared.entries.Execution.{Execution}
-use Rattle.account_history.specs.declared.entries.Reply.{Reply}
-use Rattle.account_history.specs.declared.entries.Reply.TheVariants.{Opened, Sandbox, Blocked, Denied, Locked, MustChange}
 use Rattle.account_history.specs.Given.{Given, given, is_done}
 use Rattle.account_history.specs.Histories.{History, From, ◌▹◌, moment}
 use Rattle.account_history.specs.Known.{known}
 use Rattle.account_history.specs.Options.{clear_failures}
 use Rattle.account_history.specs.Records.{has_id, in_force, records}
+pub use Rattle.account_history.specs.Replies.{opens}
+use Rattle.account_history.specs.Searching.{after_last}
 use Rattle.account_history.specs.Targets.{of_account, target_of}
 use Rattle.account_history.specs.Verifying.{account_verifies}
 
@@ -31,12 +31,6 @@ pub record Step : Type 0 where
   pub resets : Bool
   pub renews : Bool
   pub counts : Bool
-
--- what follows the last element that passes, or all where none does
-abbrev pub after_last : (Step → Bool) → List Step → List Step
-after_last passes [] = []
-after_last passes (x ∷ xs) =
-    if list_any passes xs then after_last passes xs else if passes x then xs else x ∷ xs
 
 -- the last element that passes and what follows it, or all where none does
 abbrev pub from_last : (Step → Bool) → List Step → List Step
@@ -51,15 +45,6 @@ span steps = from_last (λ step. step.renews) (after_last (λ step. step.resets)
 -- the moments of the failures that count, oldest first
 abbrev pub failures_in : List Step → List ℕ
 failures_in steps = map (λ step. step.moment) (filter (λ step. step.counts) (span steps))
-
--- a session opened
-abbrev pub opens : Reply → Bool
-opens (Opened account host) = true
-opens (Sandbox account host) = true
-opens (Blocked rule left) = false
-opens (Denied using_password) = false
-opens Locked = false
-opens MustChange = false
 
 abbrev pub no_step : ℕ → Step
 no_step now = record { moment = now; resets = false; renews = false; counts = false }

@@ -16,6 +16,8 @@ pub mod Preparing
 pub mod Privileges
 pub mod Records
 pub mod Refusals
+pub mod Replies
+pub mod Searching
 pub mod Sound
 pub mod Stamps
 pub mod Targets

@@ -18,6 +18,7 @@ use Rattle.account_history.specs.declared.entries.Entry.TheVariants.{Observed, A
 use Rattle.account_history.specs.Given.{Given, given}
 use Rattle.account_history.specs.Histories.{History, From, ◌▹◌, after_entries, start_of}
 use Rattle.account_history.specs.Legal.{IsLegal}
+pub use Rattle.account_history.specs.Naming.{has_password}
 use Rattle.account_history.specs.Naming.{is_named}
 use Rattle.account_history.specs.Numbers.{Rise, RiseTo}
 use Rattle.account_history.specs.Records.{records}
@@ -31,11 +32,6 @@ NamesDiffer [] = Unit {0}
 NamesDiffer (a ∷ accounts) = (find (is_named a.name) accounts ≡ None) × NamesDiffer accounts
 
 -- ## Passwords
-
--- a secondary password has this number
-abbrev pub has_password : ℕ → Option (Stored × ℕ) → Bool
-has_password id None = false
-has_password id (Some password) = password.1 == id
 
 abbrev pub once_if : Bool → ℕ
 once_if holds = if holds then 1 else 0

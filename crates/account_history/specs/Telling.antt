@@ -8,10 +8,12 @@ use Rattle.factor_chain.specs.declared.credentials.Stored.{Stored}
 use Rattle.factor_chain.specs.declared.credentials.PastRecord.{PastRecord}
 use Rattle.account_rules.specs.declared.accounts.Account.{Account}
 use Rattle.account_history.specs.declared.entries.Entry.{Entry}
-use Rattle.account_history.specs.Histories.{History, after_entries}
+use Rattle.account_history.specs.Histories.{History, after_entries, start_of}
 use Rattle.account_history.specs.Known.{known}
 use Rattle.account_history.specs.Records.{in_force, records}
-use Rattle.account_history.specs.Sound.{has_password}
+use Rattle.account_history.specs.Legal.{IsLegal}
+use Rattle.account_history.specs.Naming.{has_password}
+use Rattle.account_history.specs.Sound.{AreSound, AreWritten}
 use Rattle.account_history.specs.Stamps.{stamp}
 
 -- what a user logs in with: an account but for its options and privileges
@@ -40,12 +42,13 @@ kept account = record {
 abbrev pub is_of : List ℕ → Kept → Bool
 is_of user account = bytes_eq account.name.user user
 
--- one of the passwords that the user's accounts have
-abbrev pub holds_password : ℕ → Kept → Bool
-holds_password id account = (account.primary_id == id) || has_password id account.secondary
+-- one of the account's passwords has this number
+abbrev pub keeps_password : ℕ → Kept → Bool
+keeps_password id account = (account.primary_id == id) || has_password id account.secondary
 
+-- one of the passwords that the user's accounts have
 abbrev pub is_own_password : List ℕ → List Account → ℕ → Bool
-is_own_password user accounts id = list_any (λ account. is_of user account && holds_password id account) (map kept accounts)
+is_own_password user accounts id = list_any (λ account. is_of user account && keeps_password id account) (map kept accounts)
 
 -- A user logs in with the same after two histories, and what was known of the user's passwords after the first is known
 -- after the second.
@@ -55,8 +58,9 @@ pub record SameFor (user : List ℕ) (h k : History) : Type 0 where
   pub digests : (id : ℕ) (digest : List ℕ) → is_own_password user (records h) id ≡ true → known h id ≡ Some digest
       → known k id ≡ Some digest
 
--- An equal stamp after further entries tells that nothing has changed for the user.
+-- From sound accounts an equal stamp after further entries tells that nothing has changed for the user.
 abbrev pub StampsTell : Type 0
 StampsTell =
-    (h : History) (entries : List Entry) (user : List ℕ) → stamp (after_entries h entries) user ≡ stamp h user
+    (h : History) (entries : List Entry) (user : List ℕ) → AreSound (start_of h).accounts → IsLegal (after_entries h entries)
+    → AreWritten (after_entries h entries) → stamp (after_entries h entries) user ≡ stamp h user
     → SameFor user h (after_entries h entries)

@@ -13,8 +13,8 @@ pub fn attempts_are_decided()
     ensures { AttemptsAreDecided }
 {}
 
-/// An equal stamp after further entries tells that a user logs in with the same, and that what was known of
-/// it is known still.
+/// An equal stamp after further entries tells that a user logs in with the same, and that what was known of the user's
+/// passwords is known still. The accounts at the start are sound, and the history is legal.
 pub fn stamps_tell()
     ensures { StampsTell }
 {}

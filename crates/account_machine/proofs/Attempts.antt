@@ -28,7 +28,7 @@ use Rattle.account_machine.proofs.Holding.{later-holds}
 use Rattle.account_machine.proofs.Places.{in_force-place, item-at, place-within}
 use Rattle.account_machine.proofs.Written.{accounts-rows, rows-observed}
 use Rattle.account_machine.specs.declared.rows.Row.{Row}
-use Rattle.account_machine.specs.Rows.{nothing_known, place_in_force, row_of, rows_of}
+use Rattle.account_machine.specs.Rows.{place_in_force, row_of, rows_of}
 
 -- the account at the place of a user in the rows of a history
 pub record AtPlace (h : History) (user : List ℕ) (place : ℕ) (row : Row) : Type 0 where
@@ -85,14 +85,17 @@ row-after h t account new evidences reply now f e r m a k =
     λ i. record { account = a i; tally = same i }
 
 -- the tally after an attempt, of the row at its place
-pub tally-after : (h : History) (account : Account) (row new : Row) (evidences : List Evidence) (reply : Reply) (now : ℕ) → row ≡ row_of h account
+pub tally-after : (h : History) (account : Account) (row new : Row) (digests : ℕ → Option (List ℕ)) (evidences : List Evidence) (reply : Reply) (now : ℕ)
+    → ((id : ℕ) → digests id ≡ known h id) → row ≡ row_of h account
     → ((fs : List ℕ) → row.tally ≡ tally_of row.account.lock fs
-    → new.tally ≡ tally_of row.account.lock (after row.account.lock fs (opens reply) (account_verifies nothing_known row.account evidences) now))
+    → new.tally ≡ tally_of row.account.lock (after row.account.lock fs (opens reply) (account_verifies digests row.account evidences) now))
     → new.tally ≡ tally_of account.lock (after account.lock (failures h account.id) (opens reply) (account_verifies (known h) account evidences) now)
-tally-after h account row new evidences reply now e f =
+tally-after h account row new digests evidences reply now d e f =
     let P : Row → Type 0 = λ r. (fs : List ℕ) → r.tally ≡ tally_of r.account.lock fs
-    → new.tally ≡ tally_of r.account.lock (after r.account.lock fs (opens reply) (account_verifies nothing_known r.account evidences) now) in
+    → new.tally ≡ tally_of r.account.lock (after r.account.lock fs (opens reply) (account_verifies digests r.account evidences) now) in
     subst P e f (failures h account.id) refl
+    ∙ ap (λ (x : ℕ → Option (List ℕ)). tally_of account.lock (after account.lock (failures h account.id) (opens reply) (account_verifies x account evidences) now))
+    (λ i id. d id i)
 
 -- a row of a history has a tally
 pub is-tally : (h : History) (account : Account) (row : Row) → row ≡ row_of h account → IsTally row.account.lock row.tally

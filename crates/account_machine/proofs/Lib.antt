@@ -1,6 +1,7 @@
 mod Answered
 mod Attempts
 mod Committed
+mod Digested
 mod Executed
 mod Fitted
 mod Follows
@@ -15,7 +16,9 @@ mod Refusing
 mod Renumbered
 mod Replaced
 mod Restarted
+mod Roomy
 mod Seen
+mod Shown
 mod Starts
 mod Told
 mod Unrefused

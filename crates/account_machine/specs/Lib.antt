@@ -2,6 +2,7 @@ pub mod Agreeing
 pub mod Clearing
 pub mod Committing
 pub mod Counting
+pub mod Digesting
 pub mod Executing
 pub mod Fitting
 pub mod Keeping

@@ -4,10 +4,9 @@ use Rattle.std.specs.List.{position}
 use Rattle.lg_base.specs.declared.names.Name.{Name}
 use Rattle.factor_chain.specs.declared.credentials.InForce.{InForce}
 use Rattle.factor_chain.specs.declared.credentials.Look.{Look}
-use Rattle.account_history.specs.Known.{primary_of, secondary_of}
+use Rattle.account_history.specs.Answers.{shown}
 use Rattle.account_history.specs.Records.{has_id, is_named}
 use Rattle.account_rules.specs.declared.accounts.Account.{Account}
-use Rattle.account_machine.specs.Rows.{nothing_known}
 use Rattle.account_machine.specs.declared.rows.Row.{Row}
 
 abbrev pub accounts_of : List Row → List Account
@@ -26,17 +25,10 @@ abbrev pub place_numbered : List Row → ℕ → Option ℕ
 place_numbered rows id = position (λ row. has_id id row.account) rows
 
 -- an account as a look shows it, with its past passwords or without
-abbrev pub shown_account : Bool → Account → InForce
-shown_account whole account = record {
-  account = account.id;
-  name = account.name;
-  method = account.method;
-  primary = primary_of nothing_known account;
-  secondary = secondary_of nothing_known account;
-  labels = account.labels;
-  past = if whole then account.past else [];
-}
+abbrev pub shown_account : (digests : ℕ → Option (List ℕ)) → Bool → Account → InForce
+shown_account digests whole account = shown digests (if whole then account.past else []) account
 
 -- a look of a user at an account
-abbrev pub plain_look : List ℕ → (stamp : ℕ) → Bool → Option Account → Look
-plain_look user stamp whole account = record { user = user; stamp = stamp; in_force = option_map (shown_account whole) account }
+abbrev pub plain_look : (digests : ℕ → Option (List ℕ)) → List ℕ → (stamp : ℕ) → Bool → Option Account → Look
+plain_look digests user stamp whole account =
+    record { user = user; stamp = stamp; in_force = option_map (shown_account digests whole) account }

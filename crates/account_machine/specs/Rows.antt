@@ -25,10 +25,6 @@ place_at user host rows = position (λ row. is_at user host row.account) rows
 abbrev pub place_in_force : List Row → List ℕ → Option ℕ
 place_in_force rows user = or_else (place_at user host.Localhost rows) (place_at user host.Any rows)
 
--- nothing is known of any password
-abbrev pub nothing_known : ℕ → Option (List ℕ)
-nothing_known id = None
-
 -- accounts without failures
 abbrev pub new_rows : List Account → List Row
 new_rows accounts = map (λ account. record { account = account; tally = record { count = 0; locked = None } }) accounts

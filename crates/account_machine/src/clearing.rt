@@ -11,7 +11,7 @@ use lg_base::{Bytes, Memory};
 use std::alloc::Global;
 use stmt_rules::{Change, Statement};
 
-fn is_change(change: &Change) -> bool
+pub fn is_change(change: &Change) -> bool
     ensures { result ≡ is_change change.now }
 {
     match change {

@@ -5,18 +5,22 @@ ghost use Rattle.account_history.specs.Refusals.{misplaced, new_password, option
 ghost use Rattle.account_history.specs.Targets.{target_of};
 ghost use Rattle.account_machine.specs.Clearing.{cleared_user, raises};
 ghost use Rattle.account_machine.specs.Counting.{is_listed, stamp_in};
+ghost use Rattle.account_machine.specs.Digesting.{cleared_numbers, forgets};
 ghost use Rattle.account_machine.specs.Executing.{NextFits, given_of, kept_after, rows_after};
 ghost use Rattle.account_machine.specs.Keeping.{Keeps};
 ghost use Rattle.account_machine.specs.Looks.{accounts_of};
+ghost use Rattle.digest_cache.specs.Cache.{digest_of};
 ghost use Rattle.lg_outside.specs.Faults.{Rose};
-ghost use Rattle.std.specs.Prelude.{◌≡◌, ◌≤◌, ◌<◌, ◌^◌, ◌+◌, ◌&&◌, length, true, false, None, IfSome, IfOk, OnErr, ℕ, List, if◌then◌else◌};
+ghost use Rattle.std.specs.Prelude.{◌≡◌, ◌≤◌, ◌<◌, ◌^◌, ◌+◌, ◌*◌, ◌&&◌, length, true, false, None, IfSome, IfOk, OnErr, ℕ, List, if◌then◌else◌};
 
 use crate::clearing::{cleared_user, list_cleared, raise_stamps};
 use crate::executing::{Numbers, execute};
+use crate::forgetting::{cleared_numbers, forget, make_room};
 use crate::looks::account_at;
 use crate::rows::Row;
 use crate::stamps::Stamps;
 use crate::targets::find_target;
+use digest_cache::Digests;
 use lg_base::{Bytes, Memory};
 use lg_outside::Keeper;
 use std::alloc::Global;
@@ -50,12 +54,22 @@ fn list_user(
     Ok(cleared)
 }
 
-/// Does a statement that isn't refused, and raises the stamps that it raises. False where the keeper failed, and then no
-/// row and no stamp changes.
+/// The numbers of the passwords that a statement clears.
+fn forgotten_numbers(rows: &[Row], statement: &Statement, actor: u64) -> Option<(u64, Option<u64>)>
+    ensures { result ≡ cleared_numbers statement.now (target_of (accounts_of rows.now) statement.now actor) }
+{
+    let target = account_at(rows, find_target(rows, statement, actor));
+    cleared_numbers(statement, target)
+}
+
+/// Does a statement that isn't refused, raises the stamps that it raises, and takes out the digests that it clears. False
+/// where the keeper failed, and then no row, no stamp and no digest changes. There is room for the digests of all
+/// passwords then.
 pub fn perform<K: Keeper>(
     alloc: Global,
     rows: &mut Vec<Row>,
     stamps: &mut Stamps,
+    digests: &mut Digests,
     numbers: &Numbers,
     statement: &Statement,
     salt: &[u8; 20],
@@ -74,7 +88,13 @@ pub fn perform<K: Keeper>(
     ensures stamps { IfOk result (λ done. (user : List ℕ) → stamp_in stamps.new user
         ≡ (if done && raises statement.now (cleared_user statement.now (target_of (accounts_of rows.old.items) statement.now actor)) user
         then stamp_in stamps.old user + 1 else stamp_in stamps.old user)) }
+    ensures digests { IfOk result (λ done. (q : ℕ) → digest_of digests.new q
+        ≡ (if done && forgets statement.now (cleared_numbers statement.now (target_of (accounts_of rows.old.items) statement.now actor)) q
+        then None else digest_of digests.old q)) }
+    ensures room { IfOk result (λ _. 2 * (length rows.old.items + 1) ≤ digests.new.spare) }
     ensures err { OnErr result (rows.new.items ≡ rows.old.items) }
+    ensures err_digests { OnErr result ((q : ℕ) → digest_of digests.new q ≡ digest_of digests.old q) }
+    ensures stays { digests.old.spare ≤ digests.new.spare }
     ensures err_stamps { OnErr result ((user : List ℕ) → stamp_in stamps.new user ≡ stamp_in stamps.old user) }
     ensures kept { Keeps (kept_after statement.now (given_of numbers.now) actor salt.now now (accounts_of rows.old.items)) (K.told_rows keeper.old) (K.told_rows keeper.new) result }
     ensures called { IfOk result (λ done. done ≡ false → changes_accounts statement.now ≡ true) }
@@ -82,9 +102,12 @@ pub fn perform<K: Keeper>(
     ensures rising { K.fault_count keeper.old ≤ K.fault_count keeper.new }
 {
     let cleared = list_user(alloc, rows.as_slice(), stamps, statement, actor)?;
+    let forgotten = forgotten_numbers(rows.as_slice(), statement, actor);
+    make_room(digests, rows.len() + 1)?;
     let done = execute(alloc, rows, numbers, statement, salt, actor, now, keeper)?;
     if done {
         raise_stamps(stamps, statement, &cleared);
+        forget(digests, statement, forgotten);
         return Ok(true);
     }
     Ok(false)

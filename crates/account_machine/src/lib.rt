@@ -8,10 +8,12 @@
 //! `factor_chain` and `login_lock`.
 #![tactic(auto)]
 
+mod attempting;
 mod clearing;
 mod committing;
 mod effects;
 pub mod executing;
+mod forgetting;
 mod keeping;
 pub mod laws;
 pub mod loading;
@@ -26,6 +28,7 @@ pub mod stamps;
 mod targets;
 #[cfg(test)]
 mod tests;
+mod verdicts;
 
 pub use account_history::{Opening, Prepared, Reply, StmtReply, Who, prepare};
 pub use loading::MachineFault;

@@ -2,6 +2,8 @@
 
 ghost use Rattle.account_history.specs.Answers.{look_of, user_of as user_of_account};
 ghost use Rattle.account_history.specs.Histories.{History};
+ghost use Rattle.account_history.specs.Known.{known};
+ghost use Rattle.digest_cache.specs.Cache.{digest_of};
 ghost use Rattle.account_machine.specs.Looks.{account_at as account_at_place, place_named, place_numbered, plain_look, shown_account};
 ghost use Rattle.account_machine.specs.Rows.{rows_of};
 ghost use Rattle.account_history.specs.Stamps.{stamp};
@@ -12,6 +14,7 @@ use crate::rows::{Row, find_in_force, is_account_at, primary, secondary};
 use crate::stamps::Stamps;
 use account_history::Who;
 use account_rules::Account;
+use digest_cache::Digests;
 use factor_chain::{InForce, Look, PastRecord};
 use lg_base::{Bytes, Items, Memory, Name};
 use std::alloc::Global;
@@ -57,8 +60,8 @@ pub fn copy_past(alloc: Global, past: &Items<PastRecord>) -> Result<Items<PastRe
 }
 
 /// An account as a look shows it, with its past passwords or without.
-fn show(alloc: Global, account: &Account, whole: bool) -> Result<InForce, Memory>
-    ensures { IfOk result (λ made. made ≡ shown_account whole account.now) }
+fn show(alloc: Global, digests: &Digests, account: &Account, whole: bool) -> Result<InForce, Memory>
+    ensures { IfOk result (λ made. made ≡ shown_account (digest_of digests.now) whole account.now) }
 {
     let past = if whole {
         copy_past(alloc, &account.past)?
@@ -69,8 +72,8 @@ fn show(alloc: Global, account: &Account, whole: bool) -> Result<InForce, Memory
         account: account.id,
         name: copy_name(alloc, &account.name)?,
         method: account.method,
-        primary: primary(account),
-        secondary: secondary(account),
+        primary: primary(digests, account),
+        secondary: secondary(digests, account),
         labels: copy_labels(alloc, &account.labels)?,
         past,
     })
@@ -79,15 +82,16 @@ fn show(alloc: Global, account: &Account, whole: bool) -> Result<InForce, Memory
 /// A look of a user at an account.
 fn make_look(
     alloc: Global,
+    digests: &Digests,
     user: &[u8],
     stamp: u64,
     account: Option<&Account>,
     whole: bool,
 ) -> Result<Look, Memory>
-    ensures { IfOk result (λ made. made ≡ plain_look user.now stamp whole (option_copied account.entry)) }
+    ensures { IfOk result (λ made. made ≡ plain_look (digest_of digests.now) user.now stamp whole (option_copied account.entry)) }
 {
     let in_force = match account {
-        Some(account) => Some(show(alloc, account, whole)?),
+        Some(account) => Some(show(alloc, digests, account, whole)?),
         None => None,
     };
     Ok(Look {
@@ -98,26 +102,32 @@ fn make_look(
 }
 
 /// What is seen of whose account.
-pub fn look_at(alloc: Global, rows: &[Row], stamps: &Stamps, who: &Who) -> Result<Look, Memory>
+pub fn look_at(
+    alloc: Global,
+    rows: &[Row],
+    digests: &Digests,
+    stamps: &Stamps,
+    who: &Who,
+) -> Result<Look, Memory>
     requires { (user : List ℕ) → stamp_in stamps.now user < 2 ^ 64 }
-    ensures { (h : History) → rows.now ≡ rows_of h → ((user : List ℕ) → stamp_in stamps.now user ≡ stamp h user)
+    ensures { (h : History) → rows.now ≡ rows_of h → ((id : ℕ) → digest_of digests.now id ≡ known h id) → ((user : List ℕ) → stamp_in stamps.now user ≡ stamp h user)
         → IfOk result (λ look. look ≡ look_of h who.now) }
 {
     match who {
         Who::Login(user) => {
             let found = account_at(rows, find_in_force(rows, user.as_slice()));
             let user = user.as_slice();
-            make_look(alloc, user, stamps.of(user), found, false)
+            make_look(alloc, digests, user, stamps.of(user), found, false)
         }
         Who::Account(name) => {
             let found = account_at(rows, find_named(rows, name));
             let user = name.user.as_slice();
-            make_look(alloc, user, stamps.of(user), found, true)
+            make_look(alloc, digests, user, stamps.of(user), found, true)
         }
         Who::Own(id) => {
             let found = account_at(rows, find_numbered(rows, *id));
             let user = user_of(found);
-            make_look(alloc, user, stamps.of(user), found, true)
+            make_look(alloc, digests, user, stamps.of(user), found, true)
         }
     }
 }

@@ -1,16 +1,19 @@
 //! The account machine: one object that stands for a history of looks, attempts and account statements.
 
+use crate::attempting::attempt_on;
 use crate::committing::{next_change, perform};
 use crate::executing::{Numbers, next_numbers};
+use crate::forgetting::make_room;
 use crate::loading::{LoadNote, MachineFault, load_rows};
 use crate::looks::look_at;
 use crate::notes::{AttemptNote, CountNote, LookNote, StartNote, StatementNote};
 use crate::openings::opening_rows;
-use crate::rows::{Row, attempt_on};
+use crate::rows::Row;
 use crate::stamps::Stamps;
 use crate::targets::first_refusal;
 use account_history::{Log, Opening, Prepared, Reply, StmtReply, Who};
 use account_rules::Settings;
+use digest_cache::Digests;
 use factor_chain::{Checked, Evidences, Look};
 use ghost_value::GhostValue;
 use lg_base::{Code, Memory};
@@ -28,6 +31,8 @@ pub struct Accounts {
     /// The greatest numbers that were ever given.
     numbers: Numbers,
     stamps: Stamps,
+    /// The digests of passwords that users have logged in with.
+    digests: Digests,
     /// How often a stamp was raised: no stamp is greater.
     changes: u64,
     log: GhostValue<Log>,
@@ -36,13 +41,15 @@ pub struct Accounts {
 impl Model for Accounts {
     ghost use Rattle.account_history.specs.declared.entries.Log.{Log};
     ghost use Rattle.account_history.specs.Histories.{history};
+    ghost use Rattle.account_machine.specs.Digesting.{AreDigests};
     ghost use Rattle.account_machine.specs.Stands.{Stands};
 
     ghost Value = { Log };
 
     ghost view = { λ a. a.log.value };
 
-    ghost invariant = { λ a. Stands a.rows.items a.settings a.moment a.numbers a.stamps a.changes (history a.log.value) };
+    ghost invariant = { λ a. Stands a.rows.items a.settings a.moment a.numbers a.stamps a.changes (history a.log.value)
+        × AreDigests a.digests (history a.log.value) };
 }
 
 impl Accounts {
@@ -60,7 +67,7 @@ impl Accounts {
     ghost use Rattle.account_machine.specs.Agreeing.{Agrees};
     ghost use Rattle.account_machine.specs.Committing.{execution_of, has_failed, told_after};
     ghost use Rattle.account_machine.specs.Labels.{ShowsFewLabels};
-    ghost use Rattle.account_machine.specs.Loading.{AreLoadable, IsFault, IsLoaded, Loads, loaded};
+    ghost use Rattle.account_machine.specs.Loading.{AreLoadable, IsFault, IsFirstBad, IsLoaded, Loads, Refuses, loaded};
     ghost use Rattle.account_machine.specs.Openings.{are_openings, opening_start};
     ghost use Rattle.account_history.specs.Preparing.{who_of};
     ghost use Rattle.account_rules.specs.declared.accounts.Account.{Account};
@@ -68,7 +75,7 @@ impl Accounts {
     ghost use Rattle.lg_outside.specs.Keeping.{Ascend};
     ghost use Rattle.sha256_crypt.specs.Alphabet.{IsSaltByte};
     ghost use Rattle.std.specs.List.{All};
-    ghost use Rattle.std.specs.Prelude.{◌≡◌, ◌≤◌, max, [], None, IfErr, IfOk, IfSome, IsTrue, List, OnErr};
+    ghost use Rattle.std.specs.Prelude.{◌≡◌, ◌≤◌, max, [], None, IfErr, IfOk, IfSome, IsTrue, List, OnErr, ℕ};
 
     /// The accounts of a start: `'root'@'localhost'` with number 1, without a password and with both
     /// privileges, and a native account at `localhost` for each of `extra`, with the next numbers. Each
@@ -79,6 +86,8 @@ impl Accounts {
     {
         let rows = opening_rows(alloc, extra)?;
         let last = extra.len() as u64 + 1;
+        let mut digests = Digests::new(alloc);
+        make_room(&mut digests, rows.len())?;
         Ok(Accounts {
             rows,
             settings,
@@ -88,6 +97,7 @@ impl Accounts {
                 credential: last,
             },
             stamps: Stamps::new(alloc),
+            digests,
             changes: 0,
             log: GhostValue::of(&StartNote { extra, settings }),
         })
@@ -105,8 +115,11 @@ impl Accounts {
         ensures loaded { IfOk result (IsLoaded rows.now settings) }
         ensures bad { IfErr result (IsFault rows.now) }
         ensures found { (accounts : List Account) → AreLoadable rows.now accounts → Loads (λ made. made ≡ loaded accounts settings) result }
+        ensures first { (key : ℕ) → IsFirstBad rows.now key → Refuses key result }
     {
         let made = load_rows(alloc, rows)?;
+        let mut digests = Digests::new(alloc);
+        make_room(&mut digests, made.rows.len())?;
         let log = GhostValue::of(&LoadNote {
             rows: made.rows.as_slice(),
             settings,
@@ -117,6 +130,7 @@ impl Accounts {
             moment: made.moment,
             numbers: made.numbers,
             stamps: Stamps::new(alloc),
+            digests,
             changes: 0,
             log,
         })
@@ -141,7 +155,13 @@ impl Accounts {
     {
         let _log = &self.log;
         let _changes = self.changes;
-        look_at(alloc, self.rows.as_slice(), &self.stamps, who)
+        look_at(
+            alloc,
+            self.rows.as_slice(),
+            &self.digests,
+            &self.stamps,
+            who,
+        )
     }
 
     /// Notes that a look was answered. It has no effect but the entry of the history.
@@ -208,7 +228,15 @@ impl Accounts {
     {
         let now = self.moment.max(reading);
         let settings = self.settings;
-        let reply = attempt_on(&mut self.rows, &settings, user, evidences, flags, now);
+        let reply = attempt_on(
+            &mut self.rows,
+            &mut self.digests,
+            &settings,
+            user,
+            evidences,
+            flags,
+            now,
+        );
         self.moment = now;
         self.log = GhostValue::of(&AttemptNote {
             log: &self.log,
@@ -390,6 +418,7 @@ impl Accounts {
             alloc,
             &mut self.rows,
             &mut self.stamps,
+            &mut self.digests,
             &self.numbers,
             statement,
             salt,

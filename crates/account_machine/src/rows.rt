@@ -1,24 +1,19 @@
-//! The accounts that the machine keeps, each with its tally, and one attempt on an account.
+//! The accounts that the machine keeps, each with its tally, and what an attempt on an account is answered.
 
-ghost use Rattle.account_history.specs.Answers.{account_reply, reply_of, since_of, uses_password};
+ghost use Rattle.account_history.specs.Answers.{reply_of, since_of, uses_password};
 ghost use Rattle.account_history.specs.Known.{credential, primary_of, secondary_of};
 ghost use Rattle.account_history.specs.Records.{is_at, same_host};
-ghost use Rattle.account_history.specs.Verifying.{account_verifies};
-ghost use Rattle.account_history.specs.Answers.{reply_for};
-ghost use Rattle.account_history.specs.Histories.{History, moment, start_of, ◌▹◌};
-ghost use Rattle.account_history.specs.Records.{in_force, records};
-ghost use Rattle.account_history.specs.declared.entries.Attempt.{Attempt};
-ghost use Rattle.account_history.specs.declared.entries.Entry.TheVariants.{Attempted};
-ghost use Rattle.account_machine.specs.Rows.{Rise, nothing_known, place_at, place_in_force, rows_of};
-ghost use Rattle.factor_chain.specs.Checking.{verifies_on};
+ghost use Rattle.account_machine.specs.Rows.{place_at, place_in_force};
+ghost use Rattle.digest_cache.specs.Cache.{digest_of};
 ghost use Rattle.login_lock.specs.Lock.{days_left as days_left_of};
 ghost use Rattle.account_history.specs.Failures.{opens};
 ghost use Rattle.std.specs.Option.{ForSome};
-ghost use Rattle.std.specs.Prelude.{◌≡◌, ◌≤◌, max};
+ghost use Rattle.std.specs.Prelude.{◌≡◌, ◌≤◌};
 
 use account_history::Reply;
 use account_rules::{Account, Rule, Settings, expired, first_refusal};
-use factor_chain::{Credential, Evidence, Evidences, Stored, all_fit_on};
+use digest_cache::Digests;
+use factor_chain::{Credential, Evidence, Evidences, Stored};
 use lg_base::Host;
 use login_lock::{LockTime, Tally};
 
@@ -68,46 +63,32 @@ pub fn find_in_force(rows: &[Row], user: &[u8]) -> Option<usize>
     }
 }
 
-/// A stored password as a credential of which no digest is known.
-fn undigested(id: u64, stored: Stored) -> Credential
-    ensures { result ≡ credential nothing_known id stored }
+/// A stored password as a credential, with the digest that is kept of it.
+fn credential(digests: &Digests, id: u64, stored: Stored) -> Credential
+    ensures { result ≡ credential (digest_of digests.now) id stored }
 {
     Credential {
         id,
         stored,
-        digest: None,
+        digest: digests.of(id),
     }
 }
 
 /// The account's primary password.
-pub fn primary(account: &Account) -> Credential
-    ensures { result ≡ primary_of nothing_known account.now }
+pub fn primary(digests: &Digests, account: &Account) -> Credential
+    ensures { result ≡ primary_of (digest_of digests.now) account.now }
 {
-    undigested(account.primary_id, account.primary)
+    credential(digests, account.primary_id, account.primary)
 }
 
 /// The account's secondary password, if it has one.
-pub fn secondary(account: &Account) -> Option<Credential>
-    ensures { result ≡ secondary_of nothing_known account.now }
+pub fn secondary(digests: &Digests, account: &Account) -> Option<Credential>
+    ensures { result ≡ secondary_of (digest_of digests.now) account.now }
 {
     match account.secondary {
-        Some((stored, id)) => Some(undigested(id, stored)),
+        Some((stored, id)) => Some(credential(digests, id, stored)),
         None => None,
     }
-}
-
-/// Whether every factor of an account has its evidence, and each piece fits.
-fn verifies(account: &Account, evidences: &Evidences) -> bool
-    ensures { result ≡ account_verifies nothing_known account.now evidences.now }
-{
-    let factors = account.labels.len();
-    let given = evidences.len();
-    if given - 1 != factors {
-        return false;
-    }
-    let primary = primary(account);
-    let secondary = secondary(account);
-    all_fit_on(&primary, &secondary, &account.labels, evidences)
 }
 
 /// Whether the evidence begins with another than the empty password.
@@ -181,15 +162,14 @@ fn days_left(account: &Account, tally: &Tally, now: u64) -> u32
 impl Row {
     ghost use Rattle.account_history.specs.Answers.{account_reply};
     ghost use Rattle.account_history.specs.Failures.{opens};
-    ghost use Rattle.account_history.specs.Verifying.{account_verifies};
-    ghost use Rattle.account_machine.specs.Rows.{nothing_known};
     ghost use Rattle.login_lock.specs.Lock.{IsTally, after, tally_of};
     ghost use Rattle.std.specs.Option.{ForSome};
     ghost use Rattle.std.specs.Prelude.{◌≡◌, ◌≤◌, List, ℕ};
 
-    /// One attempt on the account.
+    /// One attempt on the account, whose evidence verifies or not.
     pub fn attempt(
         &mut self,
+        verified: bool,
         evidences: &Evidences,
         flags: u32,
         settings: &Settings,
@@ -197,14 +177,11 @@ impl Row {
     ) -> Reply
         requires counted { IsTally self.old.account.lock self.old.tally }
         requires since { ForSome self.old.tally.locked (λ set. set ≤ now) }
-        ensures reply { result ≡ account_reply self.old.account self.old.tally
-            (account_verifies nothing_known self.old.account evidences.now) evidences.now flags settings.now now }
+        ensures reply { result ≡ account_reply self.old.account self.old.tally verified evidences.now flags settings.now now }
         ensures account { self.new.account ≡ self.old.account }
         ensures tally { (failures : List ℕ) → self.old.tally ≡ tally_of self.old.account.lock failures
-            → self.new.tally ≡ tally_of self.old.account.lock
-            (after self.old.account.lock failures (opens result) (account_verifies nothing_known self.old.account evidences.now) now) }
+            → self.new.tally ≡ tally_of self.old.account.lock (after self.old.account.lock failures (opens result) verified now) }
     {
-        let verified = verifies(&self.account, evidences);
         let refusal = first_refusal(&self.account, &self.tally, verified, flags, settings, now);
         let reply = reply_to(refusal, self, evidences, settings, now);
         let rule = self.account.lock;
@@ -214,7 +191,7 @@ impl Row {
 }
 
 /// Whether a session opened.
-fn is_open(reply: &Reply) -> bool
+pub fn is_open(reply: &Reply) -> bool
     ensures { result ≡ opens reply.now }
 {
     match reply {
@@ -224,31 +201,5 @@ fn is_open(reply: &Reply) -> bool
         Reply::Denied { .. } => false,
         Reply::Locked => false,
         Reply::MustChange => false,
-    }
-}
-
-/// One attempt of a user on the accounts: on the one in force, if any.
-pub fn attempt_on(
-    rows: &mut Vec<Row>,
-    settings: &Settings,
-    user: &[u8],
-    evidences: &Evidences,
-    flags: u32,
-    now: u64,
-) -> Reply
-    requires { (h : History) × (rows.old.items ≡ rows_of h) × (moment h ≤ now) }
-    ensures reply { (h : History) → rows.old.items ≡ rows_of h → settings.now ≡ (start_of h).settings
-        → result ≡ reply_for h (in_force (records h) user.now) evidences.now flags now }
-    ensures rows { (h : History) (t : Attempt) → rows.old.items ≡ rows_of h → Rise 0 (records h) → max t.reading (moment h) ≡ now
-        → t.user ≡ user.now → t.evidences ≡ evidences.now → t.reply ≡ result → rows.new.items ≡ rows_of (h ▹ Attempted t) }
-{
-    match find_in_force(rows.as_slice(), user) {
-        Some(place) => {
-            let row = &mut rows[place];
-            row.attempt(evidences, flags, settings, now)
-        }
-        None => Reply::Denied {
-            using_password: uses_a_password(evidences),
-        },
     }
 }

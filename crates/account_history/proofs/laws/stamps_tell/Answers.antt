@@ -1,4 +1,4 @@
-use Rattle.account_history.proofs.Unchanged.{stamps-tell}
+use Rattle.account_history.proofs.Recalled.{stamps-tell}
 use Rattle.account_history.proofs.laws.stamps_tell.Goals as goal
 
 pub returns : goal.returns
