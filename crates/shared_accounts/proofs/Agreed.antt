@@ -1,5 +1,5 @@
 -- A look agrees with the accounts as long as the stamp of its user is the same.
-use Rattle.std.proofs.Common.{◌≡◌, refl, ap, sym, ◌∙◌, ℕ, ◌<◌, ◌==◌, ◌&&◌, cond, List, [], ◌∷◌, map, filter, find, Bool, true, false, Option, Some, None, option_map, subst, arith, eqb-true}
+use Rattle.std.proofs.Common.{◌≡◌, refl, ap, sym, ◌∙◌, ℕ, ◌<◌, ◌≤◌, ◌==◌, ◌&&◌, cond, List, [], ◌∷◌, map, filter, find, Bool, true, false, Option, Some, None, option_map, subst, arith, eqb-true}
 use Rattle.std.specs.Str.{bytes_eq}
 use Rattle.std.proofs.lemmas.Slice.Eq.{bytes_eq-Decides}
 use Rattle.lg_base.specs.declared.names.Name.{Name}
@@ -22,7 +22,7 @@ use Rattle.account_history.specs.declared.entries.Entry.{Entry}
 use Rattle.account_history.specs.declared.entries.Who.{Who}
 use Rattle.account_history.specs.declared.entries.Who.TheVariants as who
 use Rattle.account_history.proofs.Numbered.{numbers-stay-gone, passing, rise-of}
-use Rattle.account_history.proofs.Unchanged.{stamps-tell}
+use Rattle.account_history.proofs.Unchanged.{force-own, own_force, own-same}
 use Rattle.account_machine.specs.Agreeing.{Agrees, undigested, undigested_account, undigested_look}
 use Rattle.shared_accounts.specs.Beginnings.{history_of}
 use Rattle.shared_accounts.specs.Calls.{Came, WasGiven}
@@ -30,18 +30,15 @@ use Rattle.shared_accounts.specs.declared.desk.Begun.{Begun}
 use Rattle.shared_accounts.proofs.Placed.{front-history, look-stamped}
 
 same-bytes : (bytes : List ℕ) → bytes_eq bytes bytes ≡ true
-same-bytes bytes = equal (bytes_eq bytes bytes) refl where
-  equal : (b : Bool) → bytes_eq bytes bytes ≡ b → b ≡ true
-  equal true e = refl
-  equal false e = absurd (grind (bytes_eq-Decides bytes bytes))
+same-bytes bytes = (bytes_eq-Decides bytes bytes).1 refl
 
 -- ## What a look shows, but for digests
 
-bare : ℕ → Stored → Credential
+abbrev bare : ℕ → Stored → Credential
 bare id stored = record { id = id; stored = stored; digest = None }
 
 -- what is shown of what the user logs in with
-plain : List PastRecord → Kept → InForce
+abbrev plain : List PastRecord → Kept → InForce
 plain past k = record {
   account = k.id;
   name = k.name;
@@ -57,16 +54,16 @@ undigested-second : (digests : ℕ → Option (List ℕ)) (second : Option (Stor
 undigested-second digests None = refl
 undigested-second digests (Some s) = refl
 
-undigested-shown : (h : History) (past : List PastRecord) (a : Account) → undigested_account (shown h past a) ≡ plain past (kept a)
-undigested-shown h past a = ap (λ (c : Option Credential). record (plain past (kept a)) { secondary = c }) (undigested-second (known h) a.secondary)
+undigested-shown : (digests : ℕ → Option (List ℕ)) (past : List PastRecord) (a : Account) → undigested_account (shown digests past a) ≡ plain past (kept a)
+undigested-shown digests past a = ap (λ (c : Option Credential). record (plain past (kept a)) { secondary = c }) (undigested-second digests a.secondary)
 
 login-shown : (h : History) (x : Option Account) → option_map undigested_account (shown_login h x) ≡ option_map (plain []) (option_map kept x)
 login-shown h None = refl
-login-shown h (Some a) = ap (λ (s : InForce). Some s) (undigested-shown h [] a)
+login-shown h (Some a) = ap (λ (s : InForce). Some s) (undigested-shown (known h) [] a)
 
 whole-shown : (h : History) (x : Option Account) → option_map undigested_account (shown_whole h x) ≡ option_map (λ k. plain k.past k) (option_map kept x)
 whole-shown h None = refl
-whole-shown h (Some a) = ap (λ (s : InForce). Some s) (undigested-shown h a.past a)
+whole-shown h (Some a) = ap (λ (s : InForce). Some s) (undigested-shown (known h) a.past a)
 
 -- ## Accounts of one user
 
@@ -82,7 +79,7 @@ map-cond false a found = refl
 
 -- an account that is sought among those of its user
 module _ (user : List ℕ) (other : Kept → Bool) where
-  both : Kept → Bool
+  abbrev both : Kept → Bool
   both k = is_of user k && other k
 
   find-own : (accounts : List Account) → option_map kept (find (λ a. both (kept a)) accounts) ≡ find both (filter (is_of user) (map kept accounts))
@@ -157,21 +154,22 @@ same-shown h k user user' x y u s e = λ i. record {
 }
 
 module _ (h : History) (entries : List Entry) where
-  later : History
+  abbrev later : History
   later = after_entries h entries
 
   login-same : (user : List ℕ) → stamp later user ≡ stamp h user
       → undigested_look (look_of h (who.Login user)) ≡ undigested_look (look_of later (who.Login user))
   login-same user s =
-      let same = stamps-tell h entries user s in
+      let same = own-same h entries user s in
+      let stands : option_map kept (in_force (records later) user) ≡ option_map kept (in_force (records h) user) =
+      force-own user (records later) ∙ (ap (own_force user) same ∙ sym (force-own user (records h))) in
       same-shown h later user user (shown_login h (in_force (records h) user)) (shown_login later (in_force (records later) user)) refl s
-      (login-shown h (in_force (records h) user) ∙ (ap (option_map (plain [])) (sym same.stands) ∙ sym (login-shown later (in_force (records later) user))))
+      (login-shown h (in_force (records h) user) ∙ (ap (option_map (plain [])) (sym stands) ∙ sym (login-shown later (in_force (records later) user))))
 
   named-same : (name : Name) → stamp later name.user ≡ stamp h name.user
       → undigested_look (look_of h (who.Account name)) ≡ undigested_look (look_of later (who.Account name))
   named-same name s =
-      let same = stamps-tell h entries name.user s in
-      let found = same-found name.user (λ k. same_host k.name.host name.host) (records h) (records later) same.accounts in
+      let found = same-found name.user (λ k. same_host k.name.host name.host) (records h) (records later) (own-same h entries name.user s) in
       same-shown h later name.user name.user (shown_whole h (find (is_named name) (records h))) (shown_whole later (find (is_named name) (records later))) refl s
       (whole-shown h (find (is_named name) (records h)) ∙ (ap (option_map (λ k. plain k.past k)) (sym found) ∙ sym (whole-shown later (find (is_named name) (records later)))))
 
@@ -197,27 +195,26 @@ module _ (h : History) (entries : List Entry) where
   own-found id (Some a) e g r s =
       let user : List ℕ = a.name.user in
       let own : Kept → Bool = λ k. k.id == id in
-      let same = stamps-tell h entries user s in
       let before : find (λ x. is_of user (kept x) && has_id id x) (records h) ≡ Some a =
       first-both (has_id id) (λ x. is_of user (kept x)) (records h) a e (same-bytes user) in
       let found : option_map kept (find (λ x. is_of user (kept x) && has_id id x) (records later)) ≡ Some (kept a) =
-      same-found user own (records h) (records later) same.accounts ∙ ap (option_map kept) before in
+      same-found user own (records h) (records later) (own-same h entries user s) ∙ ap (option_map kept) before in
       now (find (λ x. is_of user (kept x) && has_id id x) (records later)) refl found where
         now : (y : Option Account) → find (λ x. is_of a.name.user (kept x) && has_id id x) (records later) ≡ y → option_map kept y ≡ Some (kept a)
             → option_map kept (find (has_id id) (records later)) ≡ Some (kept a)
         now None f k = absurd (cc)
         now (Some b) f k = ap (option_map kept) (only-one id (λ x. is_of a.name.user (kept x)) 0 (records later) b r f) ∙ k
 
-  own-same : (id : ℕ) → id ≤ (given h).account → Rise 0 (records later) → stamp later (look_of h (who.Own id)).user ≡ stamp h (look_of h (who.Own id)).user
+  own-look-same : (id : ℕ) → id ≤ (given h).account → Rise 0 (records later) → stamp later (look_of h (who.Own id)).user ≡ stamp h (look_of h (who.Own id)).user
       → undigested_look (look_of h (who.Own id)) ≡ undigested_look (look_of later (who.Own id))
-  own-same id g r s =
+  own-look-same id g r s =
       own-shown (find (has_id id) (records h)) (find (has_id id) (records later)) (own-found id (find (has_id id) (records h)) refl g r s) s
 
   look-same : (w : Who) → WasGiven h w → Rise 0 (records later) → stamp later (look_of h w).user ≡ stamp h (look_of h w).user
       → undigested_look (look_of h w) ≡ undigested_look (look_of later w)
   look-same (who.Login user) g r s = login-same user s
   look-same (who.Account name) g r s = named-same name s
-  look-same (who.Own id) g r s = own-same id g r s
+  look-same (who.Own id) g r s = own-look-same id g r s
 
 -- a look agrees where the stamp of its user is still the same
 pub came-agrees : (begun : Begun) (entries : List Entry) (w : Who) (look : Look) → Came begun entries w look

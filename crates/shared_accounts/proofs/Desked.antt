@@ -1,5 +1,6 @@
 -- The desk in a turn: what holds of its accounts, and what it keeps after a call.
-use Rattle.std.proofs.Common.{◌≡◌, refl, ap, sym, ◌∙◌, ℕ, ◌<◌, ◌≤◌, max, Bool, true, false, if◌then◌else◌, List, ◌∷◌, Option, Some, option_map, Result, Ok, Err, IfOk, OnErr, subst, arith}
+use Rattle.std.proofs.Common.{◌≡◌, ◌⊎◌, ⊎_elim, refl, ap, sym, ◌∙◌, ℕ, ◌<◌, ◌≤◌, max, Bool, true, false, if◌then◌else◌, List, ◌∷◌, Option, Some, option_map, Result, Ok, Err, IfOk, OnErr, subst, arith}
+use Rattle.std.proofs.lemmas.Bool.{cases_order}
 use Rattle.lg_base.specs.declared.allocation.Memory.{Memory}
 use Rattle.lg_outside.specs.declared.keepers.Row.{Row}
 use Rattle.factor_chain.specs.declared.credentials.Look.{Look}
@@ -40,6 +41,10 @@ module _ (begun : Begun) (log : Log) (same : log.start ≡ begun.log.start) wher
   pub desk-history : history_of begun log.entries ≡ history log
   desk-history = ap history desk-log
 
+  -- the stamp that the accounts give is the one of the entries
+  pub current : (user : List ℕ) (found : ℕ) → found ≡ stamp (history log) user → found ≡ stamp (history_of begun log.entries) user
+  current user found e = e ∙ ap (λ h. stamp h user) (sym desk-history)
+
   module _ (w : Who) (look : Look) (came : Came begun log.entries w look) (found : ℕ) (found-is : found ≡ stamp (history log) look.user) where
     pub agrees-now : found ≡ look.stamp → RiseTo 0 (given (history log)).account (records (history log)) → Agrees (history log) w look
     agrees-now e rise =
@@ -50,11 +55,12 @@ module _ (begun : Begun) (log : Log) (same : log.start ≡ begun.log.start) wher
 
     pub late-now : {R : Type 0} (made : R → Entry) → (found ≡ look.stamp → ⊥) → IsLegal (history log) → IsTimely (history_of begun log.entries) look made (Stale found)
     late-now made other legal =
-        let its : found ≡ stamp (history_of begun log.entries) look.user = found-is ∙ ap (λ h. stamp h look.user) (sym desk-history) in
+        let its : found ≡ stamp (history_of begun log.entries) look.user = current look.user found found-is in
         let less = came-less begun log.entries w look came in
         (subst IsLegal (sym desk-history) legal, its, above its less) where
           above : found ≡ stamp (history_of begun log.entries) look.user → look.stamp ≤ stamp (history_of begun log.entries) look.user → look.stamp < found
-          above its less = grind (arith, other, its, less)
+          above its less = ⊎_elim (λ (e : found ≡ look.stamp). absurd (other e))
+              (λ (r : (found < look.stamp) ⊎ (look.stamp < found)). ⊎_elim (λ (l : found < look.stamp). absurd (omega (arith, its, less, l))) (λ l. l) r) (cases_order found look.stamp)
 
   -- a statement that was noted is a legal entry
   pub run-legal : (log' : Log) (statement : Statement) (salt : List ℕ) (actor reading : ℕ) (ran : Ran) (count : ℕ) → ran.count ≡ count
@@ -86,7 +92,7 @@ module _ (log log' : Log) (entry : Entry) (n : log' ≡ noted log entry) where
 
 -- after a statement, be it that memory was wanting
 module _ (log log' : Log) (statement : Statement) (salt : List ℕ) (actor reading count : ℕ) where
-  done : StmtReply → Entry
+  abbrev pub done : StmtReply → Entry
   done reply = Executed (execution_of (history log) statement salt actor reading count reply)
 
   pub start-after : (result : Result StmtReply Memory) (start : Start) → IfOk result (λ reply. log' ≡ noted log (done reply)) → OnErr result (log' ≡ log)

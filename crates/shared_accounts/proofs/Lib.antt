@@ -1,4 +1,6 @@
-pub mod Placed
 pub mod Agreed
+pub mod Answering
+pub mod Counted
 pub mod Desked
+pub mod Placed
 pub mod Turning

@@ -1,5 +1,6 @@
 -- Where a look came from, and what its place tells.
-use Rattle.std.proofs.Common.{◌≡◌, refl, ap, sym, ◌∙◌, ℕ, zero, suc, ◌+◌, ◌<◌, ◌≤◌, max, ◌==◌, cond, List, [], ◌∷◌, ◌++◌, length, find, slice_index_or, Contains, Bool, true, false, if◌then◌else◌, Option, Some, None, IsSome, subst, arith, eqb-true, append_assoc}
+use Rattle.std.proofs.Common.{◌≡◌, ◌⊎◌, ⊎_elim, refl, ap, sym, ◌∙◌, ℕ, zero, suc, ◌+◌, ◌<◌, ◌≤◌, max, ◌==◌, cond, List, [], ◌∷◌, ◌++◌, length, find, slice_index_or, Contains, Bool, true, false, if◌then◌else◌, Option, Some, None, IsSome, subst, arith, eqb-true, append_assoc}
+use Rattle.std.proofs.lemmas.Bool.{cases_order}
 use Rattle.factor_chain.specs.declared.credentials.Look.{Look}
 use Rattle.account_rules.specs.declared.accounts.Account.{Account}
 use Rattle.stmt_rules.specs.declared.statement.Statement.{Statement}
@@ -22,6 +23,7 @@ use Rattle.account_history.proofs.OneMore.{stamp-more}
 use Rattle.shared_accounts.specs.Beginnings.{history_of}
 use Rattle.shared_accounts.specs.Calls.{Came, WasGiven}
 use Rattle.shared_accounts.specs.Sharing.{HasLook, HasStood, OwnHasStood}
+use Rattle.shared_accounts.specs.Tickets.{TicketOf}
 use Rattle.shared_accounts.specs.declared.desk.Begun.{Begun}
 
 -- ## Entries one after another
@@ -122,12 +124,13 @@ given-later h [] = omega arith
 given-later h (entry ∷ entries) = let now = given-more h entry in let later = given-later (h ▹ entry) entries in omega arith
 
 stood-given : (h : History) (id : ℕ) → IsSome (find (has_id id) (records h)) → id ≤ (given h).account
-stood-given h id s = not-less (id) (given h).account (λ l. nobody (find (has_id id) (records h)) (never-given h id l) s) where
+stood-given h id s = not-less id (given h).account (λ l. nobody (find (has_id id) (records h)) (never-given h id l) s) where
   nobody : (found : Option Account) → found ≡ None → IsSome found → ⊥
-  nobody found e s = let there : IsSome {T = Account} None = subst (λ x. IsSome x) e s in absurd (grind (there))
+  nobody None e s = let there : false ≡ true = s in absurd (cc)
+  nobody (Some a) e s = absurd (cc)
 
   not-less : (n m : ℕ) → (m < n → ⊥) → n ≤ m
-  not-less n m f = grind (arith, f)
+  not-less n m f = ⊎_elim (λ (e : n ≡ m). omega arith) (λ (r : (n < m) ⊎ (m < n)). ⊎_elim (λ (l : n < m). omega arith) (λ (l : m < n). absurd (f l)) r) (cases_order n m)
 
 -- ## Looks of a legal history
 
@@ -155,3 +158,21 @@ look-came begun entries (who.Own id) look legal has own =
     let same : (given (history_of begun own.0)).account ≡ (given (after_entries (history_of begun stood.0) stood.1)).account =
     ap (λ k. (given k).account) (front-history begun own.0 stood.0 stood.1 stood.2) in
     came-at begun entries own.0 own.1 (who.Own id) look own.2 legal (omega arith)
+
+-- ## What a ticket gives the right to
+
+-- an attempt whose evidence was checked on the ticket's look
+pub login-came : (begun : Begun) (entries : List Entry) (ticket : TicketOf) (look : Look) (user : List ℕ) → look ≡ ticket.look → ticket.who ≡ who.Login user
+    → IsLegal (history_of begun entries) → HasLook entries ticket.who ticket.look → Came begun entries (who.Login look.user) look
+login-came begun entries ticket look user e login legal has =
+    let c : Came begun entries (who.Login user) ticket.look =
+    look-came begun entries (who.Login user) ticket.look legal (subst (λ w. HasLook entries w ticket.look) login has) tt in
+    let its : ticket.look.user ≡ user = ap (λ (l : Look). l.user) c.look_is in
+    subst (λ (l : Look). Came begun entries (who.Login l.user) l) (sym e) (subst (λ (u : List ℕ). Came begun entries (who.Login u) ticket.look) (sym its) c)
+
+-- a statement that was prepared on it
+pub statement-came : (begun : Begun) (entries : List Entry) (ticket : TicketOf) (look : Look) (w : Who) → look ≡ ticket.look → ticket.who ≡ w
+    → IsLegal (history_of begun entries) → HasLook entries ticket.who ticket.look → OwnHasStood begun entries ticket.who ticket.look → Came begun entries w look
+statement-came begun entries ticket look w e whose legal has stood =
+    subst (λ (l : Look). Came begun entries w l) (sym e)
+    (subst (λ (x : Who). Came begun entries x ticket.look) whose (look-came begun entries ticket.who ticket.look legal has stood))

@@ -21,7 +21,7 @@ use Rattle.shared_accounts.specs.declared.desk.Begun.{Begun}
 
 module _ (begun : Begun) (v w : AccountsView) (others : List (Made Entry)) where
   -- the entries before the call's own
-  pub entries_then : List Entry
+  abbrev pub entries_then : List Entry
   entries_then = map entry_of (v.seen ++ others)
 
   one-turn : (added : List Entry) → TookTurn v others added w → OneTurn begun v w
@@ -34,7 +34,7 @@ module _ (begun : Begun) (v w : AccountsView) (others : List (Made Entry)) where
   pub same-carried : (added : List Entry) → TookTurn v others added w → w.carried ≡ v.carried
   same-carried added t = ap (λ (x : AccountsView). x.carried) t.after
 
-  grown : Extends (log_of begun (entries_seen v)) (log_of begun entries_then)
+  abbrev grown : Extends (log_of begun (entries_seen v)) (log_of begun entries_then)
   grown = (map entry_of others, ap (log_of begun) (map-append entry_of v.seen others))
 
   pub entered : (entry : Entry) → TookTurn v others (entry ∷ []) w → Added begun v w (log_of begun entries_then) entry
