@@ -4,4 +4,5 @@ pub mod Counted
 pub mod Desked
 pub mod Ends
 pub mod Placed
+pub mod Salts
 pub mod Turning

@@ -1,5 +1,3 @@
-use Rattle.shared_accounts.proofs.Answering.{looked}
-use Rattle.shared_accounts.proofs.Desked.{start-after}
 use Rattle.shared_accounts.proofs.Counted.{failures-count-once}
 use Rattle.shared_accounts.proofs.laws.failures_count_once.Goals as goal
 

@@ -1,4 +1,4 @@
-use Rattle.std.proofs.Common.{◌≡◌, ap, ◌∙◌, Err, subst, [], ◌∷◌}
+use Rattle.std.proofs.Common.{◌≡◌, ap, Err, subst, [], ◌∷◌}
 use Rattle.turn_book.specs.Book.{TookTurn, began, view}
 use Rattle.shared_accounts.specs.Desks.{desk_start}
 use Rattle.shared_accounts.specs.Beginnings.{history_of}
@@ -30,15 +30,15 @@ returns-in-Ok-clause-committed g c =
 
 pub returns-in-Err-Memory-clause-own : goal.returns-in-Err-Memory-clause-own
 returns-in-Err-Memory-clause-own g c =
-    let d = c.in-Err-Memory.ensures.memory (first_of (ap (λ e. Err e) c.in-Err-Memory.field-0-is, c.in-Err-Memory.is ∙ ap (λ e. Err e) c.in-Err-Memory.field-0-is)) in
+    let d = c.in-Err-Memory.ensures.memory (ap (λ e. Err e) c.in-Err-Memory.field-0-is) in
     (c.turn.ensures.own, (goes-passed (began desk_start c.args.self.now.book) (view c.args.seat.now) (view c.turn.new.seat) d.0 d.1 d.2).legal)
 
 pub returns-in-Err-Memory-clause-number : goal.returns-in-Err-Memory-clause-number
 returns-in-Err-Memory-clause-number g c =
-    let d = c.in-Err-Memory.ensures.memory (first_of (ap (λ e. Err e) c.in-Err-Memory.field-0-is, c.in-Err-Memory.is ∙ ap (λ e. Err e) c.in-Err-Memory.field-0-is)) in
+    let d = c.in-Err-Memory.ensures.memory (ap (λ e. Err e) c.in-Err-Memory.field-0-is) in
     (goes-passed (began desk_start c.args.self.now.book) (view c.args.seat.now) (view c.turn.new.seat) d.0 d.1 d.2).carried
 
 pub returns-in-Err-Memory-clause-committed : goal.returns-in-Err-Memory-clause-committed
 returns-in-Err-Memory-clause-committed g c =
-    let d = c.in-Err-Memory.ensures.memory (first_of (ap (λ e. Err e) c.in-Err-Memory.field-0-is, c.in-Err-Memory.is ∙ ap (λ e. Err e) c.in-Err-Memory.field-0-is)) in
+    let d = c.in-Err-Memory.ensures.memory (ap (λ e. Err e) c.in-Err-Memory.field-0-is) in
     passed (began desk_start c.args.self.now.book) (view c.args.seat.now) (view c.turn.new.seat) d.0 d.1
