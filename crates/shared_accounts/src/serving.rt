@@ -61,7 +61,9 @@ impl<'a, K: Keeper + Drop> Applies<AttemptCall<'a>> for Desk<K> {
         if stamp != call.checked.stamp() {
             return Ok(Outcome::Stale(stamp));
         }
-        let reply = self.accounts.attempt(call.checked, call.flags, call.reading);
+        let reply = self
+            .accounts
+            .attempt(call.checked, call.flags, call.reading);
         Ok(Outcome::Done(reply))
     }
 

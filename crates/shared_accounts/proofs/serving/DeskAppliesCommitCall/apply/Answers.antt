@@ -47,7 +47,9 @@ returns-clause-answered g c =
     let found : c.stamp-stamp.result ≡ stamp (history_of desk.begun.value desk.accounts.entries) call.prepared.now.look.user =
     current desk.begun.value desk.accounts desk.start call.prepared.now.look.user c.stamp-stamp.result (c.stamp-stamp.ensures ∙ ap (stamp (history desk.accounts)) (c.as_slice.ensures ∙ ap (λ l. l.user) c.look-look.ensures)) in (
       refl,
-      (run-legal desk.begun.value desk.accounts desk.start c.commit.new.self call.prepared.now.statement call.prepared.now.salt call.actor call.reading (record { reply = c.in_ok-reply.reply; count = c.faults-count.result })
-      (g.K.Keeper.fault_count c.commit.new.keeper) c.faults-count.ensures c.in_ok-reply.ensures.entry c.is_legal-2.ensures.legal,
-      sym found ∙ (c.if-stamp-look.false ∙ its)),
+      (
+        run-legal desk.begun.value desk.accounts desk.start c.commit.new.self call.prepared.now.statement call.prepared.now.salt call.actor call.reading (record { reply = c.in_ok-reply.reply; count = c.faults-count.result })
+            (g.K.Keeper.fault_count c.commit.new.keeper) c.faults-count.ensures c.in_ok-reply.ensures.entry c.is_legal-2.ensures.legal,
+        sym found ∙ (c.if-stamp-look.false ∙ its),
+      ),
     )

@@ -22,5 +22,5 @@ returns-clause-answered g c =
     let call = c.args.call.now in (
       refl,
       run-legal desk.begun.value desk.accounts desk.start c.commit_here.new.self call.statement.now call.salt.now call.actor call.reading (record { reply = c.in_ok-reply.reply; count = c.faults-count.result })
-      (g.K.Keeper.fault_count c.commit_here.new.keeper) c.faults-count.ensures c.in_ok-reply.ensures.entry c.is_legal-2.ensures.legal,
+          (g.K.Keeper.fault_count c.commit_here.new.keeper) c.faults-count.ensures c.in_ok-reply.ensures.entry c.is_legal-2.ensures.legal,
     )

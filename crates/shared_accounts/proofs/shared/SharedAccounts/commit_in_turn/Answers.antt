@@ -10,9 +10,11 @@ use Rattle.shared_accounts.proofs.shared.SharedAccounts.commit_in_turn.Goals as 
 pub returns-in-Ok-clause-own : goal.returns-in-Ok-clause-own
 returns-in-Ok-clause-own g c =
     let s = c.in-Ok.ensures.ok in
-    let h = (history_of (began desk_start c.args.self.now.book) (entries_then (began desk_start c.args.self.now.book) (view c.args.seat.now) (view c.turn.new.seat) s.0)) in
-    (c.turn.ensures.own, (goes-entered (began desk_start c.args.self.now.book) (view c.args.seat.now) (view c.turn.new.seat) s.0 (run_of h c.args.statement.now c.args.salt.now c.args.actor c.args.reading c.in-Ok.ran)
-    (subst (λ k. TookTurn (view c.args.seat.now) s.0 (run_of h k.statement.now k.salt.now k.actor k.reading c.in-Ok.ran ∷ []) (view c.turn.new.seat)) s.2.0 s.1) s.2.1).legal)
+    let h = (history_of (began desk_start c.args.self.now.book) (entries_then (began desk_start c.args.self.now.book) (view c.args.seat.now) (view c.turn.new.seat) s.0)) in (
+      c.turn.ensures.own,
+      (goes-entered (began desk_start c.args.self.now.book) (view c.args.seat.now) (view c.turn.new.seat) s.0 (run_of h c.args.statement.now c.args.salt.now c.args.actor c.args.reading c.in-Ok.ran)
+          (subst (λ k. TookTurn (view c.args.seat.now) s.0 (run_of h k.statement.now k.salt.now k.actor k.reading c.in-Ok.ran ∷ []) (view c.turn.new.seat)) s.2.0 s.1) s.2.1).legal,
+    )
 
 pub returns-in-Ok-clause-number : goal.returns-in-Ok-clause-number
 returns-in-Ok-clause-number g c =

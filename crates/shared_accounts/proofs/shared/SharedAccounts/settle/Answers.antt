@@ -13,9 +13,11 @@ turn-requires-clause-can g c =
 
 pub returns-in-Ok-Done-clause-own : goal.returns-in-Ok-Done-clause-own
 returns-in-Ok-Done-clause-own g c =
-    let s = c.in-Ok-Done.ensures.ok in
-    (c.turn.ensures.own, (goes-timely (began desk_start c.args.self.now.book) (view c.args.seat.now) (view c.turn.new.seat) s.0 c.args.checked.look (attempt_on c.args.checked c.args.flags c.args.reading) c.in-Ok-Done.field-0
-    (subst (λ k. TookTurn (view c.args.seat.now) s.0 (option_to_list (added_by (attempt_on k.checked.now k.flags k.reading) c.in-Ok-Done.field-0)) (view c.turn.new.seat)) s.2.0 s.1) s.2.1).legal)
+    let s = c.in-Ok-Done.ensures.ok in (
+      c.turn.ensures.own,
+      (goes-timely (began desk_start c.args.self.now.book) (view c.args.seat.now) (view c.turn.new.seat) s.0 c.args.checked.look (attempt_on c.args.checked c.args.flags c.args.reading) c.in-Ok-Done.field-0
+          (subst (λ k. TookTurn (view c.args.seat.now) s.0 (option_to_list (added_by (attempt_on k.checked.now k.flags k.reading) c.in-Ok-Done.field-0)) (view c.turn.new.seat)) s.2.0 s.1) s.2.1).legal,
+    )
 
 pub returns-in-Ok-Done-clause-number : goal.returns-in-Ok-Done-clause-number
 returns-in-Ok-Done-clause-number g c =
@@ -31,9 +33,11 @@ returns-in-Ok-Done-clause-settled g c =
 
 pub returns-in-Ok-Stale-clause-own : goal.returns-in-Ok-Stale-clause-own
 returns-in-Ok-Stale-clause-own g c =
-    let s = c.in-Ok-Stale.ensures.ok in
-    (c.turn.ensures.own, (goes-timely (began desk_start c.args.self.now.book) (view c.args.seat.now) (view c.turn.new.seat) s.0 c.args.checked.look (attempt_on c.args.checked c.args.flags c.args.reading) c.in-Ok-Stale.field-0
-    (subst (λ k. TookTurn (view c.args.seat.now) s.0 (option_to_list (added_by (attempt_on k.checked.now k.flags k.reading) c.in-Ok-Stale.field-0)) (view c.turn.new.seat)) s.2.0 s.1) s.2.1).legal)
+    let s = c.in-Ok-Stale.ensures.ok in (
+      c.turn.ensures.own,
+      (goes-timely (began desk_start c.args.self.now.book) (view c.args.seat.now) (view c.turn.new.seat) s.0 c.args.checked.look (attempt_on c.args.checked c.args.flags c.args.reading) c.in-Ok-Stale.field-0
+          (subst (λ k. TookTurn (view c.args.seat.now) s.0 (option_to_list (added_by (attempt_on k.checked.now k.flags k.reading) c.in-Ok-Stale.field-0)) (view c.turn.new.seat)) s.2.0 s.1) s.2.1).legal,
+    )
 
 pub returns-in-Ok-Stale-clause-number : goal.returns-in-Ok-Stale-clause-number
 returns-in-Ok-Stale-clause-number g c =
@@ -49,6 +53,8 @@ into_late-requires g c =
 
 pub returns-in-Ok-Stale-clause-settled : goal.returns-in-Ok-Stale-clause-settled
 returns-in-Ok-Stale-clause-settled g c =
-    let s = c.in-Ok-Stale.ensures.ok in
-    (was-late (began desk_start c.args.self.now.book) (view c.args.seat.now) (view c.turn.new.seat) s.0 c.args.checked.look (attempt_on c.args.checked c.args.flags c.args.reading) c.in-Ok-Stale.field-0
-    (subst (λ k. TookTurn (view c.args.seat.now) s.0 (option_to_list (added_by (attempt_on k.checked.now k.flags k.reading) c.in-Ok-Stale.field-0)) (view c.turn.new.seat)) s.2.0 s.1) s.2.1 c.args.ticket c.into_late.result c.in-Ok-Stale.stamp c.in-Ok-Stale.field-0-is (sym c.requires.look) c.into_late.ensures, c.into_evidences.ensures)
+    let s = c.in-Ok-Stale.ensures.ok in (
+      was-late (began desk_start c.args.self.now.book) (view c.args.seat.now) (view c.turn.new.seat) s.0 c.args.checked.look (attempt_on c.args.checked c.args.flags c.args.reading) c.in-Ok-Stale.field-0
+          (subst (λ k. TookTurn (view c.args.seat.now) s.0 (option_to_list (added_by (attempt_on k.checked.now k.flags k.reading) c.in-Ok-Stale.field-0)) (view c.turn.new.seat)) s.2.0 s.1) s.2.1 c.args.ticket c.into_late.result c.in-Ok-Stale.stamp c.in-Ok-Stale.field-0-is (sym c.requires.look) c.into_late.ensures,
+      c.into_evidences.ensures,
+    )
