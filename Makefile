@@ -28,3 +28,6 @@ bench:
 	@bench/statements
 	@cd crates/turn_probe && rt run < stdin > /dev/null
 	@bench/turns
+	@cd crates/keeper_probe && rt run < stdin > /dev/null
+	@cd crates/socket_probe && rt run < stdin > /dev/null
+	@bench/edge

@@ -37,10 +37,9 @@ pub fn answer_right(rt: &HostRuntime, words: &[&str]) -> io::Result<()> {
     print_whether(rt, fast_right(&digest, &nonce, &response))
 }
 
-fn print_stored(rt: &HostRuntime, text: &[u8], stored: &Sha2Stored) -> io::Result<()> {
+fn print_stored(rt: &HostRuntime, stored: &Sha2Stored, same: bool) -> io::Result<()> {
     let salt = str::from_utf8(&stored.salt).unwrap_or("no text");
     let sum = str::from_utf8(&stored.sum).unwrap_or("no text");
-    let same = write_stored(stored).as_slice() == text;
     print!(rt; "{} {salt} {sum} ", stored.thousands)?;
     println!(rt; "{}", if same { "same" } else { "other" })
 }
@@ -51,7 +50,10 @@ pub fn answer_stored(rt: &HostRuntime, words: &[&str]) -> io::Result<()> {
     };
     let text = bytes_of(rt.alloc(), *text);
     match read_stored(text.as_slice()) {
-        Some(stored) => print_stored(rt, text.as_slice(), &stored),
+        Some(stored) => {
+            let same = write_stored(&stored).as_slice() == text.as_slice();
+            print_stored(rt, &stored, same)
+        }
         None => println!(rt; "none"),
     }
 }

@@ -1,7 +1,7 @@
 //! The outside of the server, as traits: clocks, draws of nonces, verifiers of further factors, gates, doors where
 //! connections come in, and makers of what each session needs. Beside each trait stands its form in memory, which tells
 //! contracts what it has given and fails at listed calls alone. Of the adapters, which tell nothing of what they
-//! have given, the system's clock and draws by ChaCha20 stand here.
+//! have given, the system's clock and draws by ChaCha20 stand here, and those over sockets in `server_sockets`.
 //!
 //! **What a clock, draws or a verifier give comes last in what they tell**, until they cease to tell. Contracts see what
 //! they and a maker were made with, and no call of the traits changes that. **A door gives the first link that is left.**
@@ -35,6 +35,3 @@ pub use makers::Maker;
 pub use memory_door::MemoryDoor;
 pub use system_clock::SystemClock;
 pub use verifiers::{Accepted, Verdict, Verifier};
-
-#[cfg(test)]
-mod tests;

@@ -102,13 +102,28 @@ fn refuse(stream: UnixStream) {
     }
 }
 
-/// Whether an accept that failed so may succeed later: no peer came, or the system has no descriptor or no memory for one,
-/// or the peer has gone.
+/// The errors of Linux for want of memory, of descriptors of the system and of the process, and of buffers, and for a peer
+/// that has gone before it was accepted.
+const ENOMEM: i32 = 12;
+
+const ENFILE: i32 = 23;
+
+const EMFILE: i32 = 24;
+
+const ECONNABORTED: i32 = 103;
+
+const ENOBUFS: i32 = 105;
+
+/// Whether an accept that failed so may succeed later: no peer came or it has gone, or the system has no descriptor or no
+/// memory for one.
 fn passes(error: &io::Error) -> bool {
     if error.kind() == ErrorKind::WouldBlock || error.kind() == ErrorKind::Interrupted {
         return true;
     }
-    matches!(error.raw_os_error(), Some(12 | 23 | 24 | 103 | 105))
+    matches!(
+        error.raw_os_error(),
+        Some(ENOMEM | ENFILE | EMFILE | ECONNABORTED | ENOBUFS)
+    )
 }
 
 impl Listening {

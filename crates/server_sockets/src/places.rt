@@ -113,7 +113,7 @@ fn prepared<F: Files>(files: &F, path: &str, listener: UnixListener) -> io::Resu
     with_turns(listener)
 }
 
-/// A listener at the path, and the file of its socket. Where something fails nothing is left of it.
+/// A listener at the path, and the file of its socket. Where the socket can't be given its mode it is removed again.
 pub(crate) fn listen_at<R: Files + Net>(
     rt: &R,
     path: &str,

@@ -154,34 +154,12 @@ fn write_word<R: Clock>(
     while !left.is_empty() {
         let size = left.len().min(PIECE / 2);
         let mut room = [0u8; PIECE];
-        let count = hex_into(&mut room, &left[..size]);
-        write_until(time, stream, until, &room[..count])?;
+        let letters = &mut room[..2 * size];
+        if hex::encode_to_slice(&left[..size], letters).is_err() {
+            return Err(Failed);
+        }
+        write_until(time, stream, until, letters)?;
         left = &left[size..];
     }
     Ok(())
-}
-
-/// Puts a piece in hexadecimal in front, and answers how many letters that takes.
-fn hex_into(room: &mut [u8; PIECE], piece: &[u8]) -> usize
-    requires { length piece.now ≤ 32 }
-    ensures { result ≡ 2 * length piece.now }
-{
-    let mut count = 0;
-    'bytes: for byte in piece {
-        room[count] = digit(*byte / 16);
-        room[count + 1] = digit(*byte % 16);
-        count += 2;
-    }
-    count
-}
-
-/// The hexadecimal digit of a number below 16.
-fn digit(number: u8) -> u8
-    requires { number < 16 }
-{
-    if number < 10 {
-        b'0' + number
-    } else {
-        b'a' + (number - 10)
-    }
 }
