@@ -106,9 +106,9 @@ AsksAreAnswered =
 abbrev pub WhatFitsIsAsked : Type 0
 WhatFitsIsAsked = (next : ℕ) (t : SessionTalk) (given : Input) → IsFitting (Own (asked next t)) given → IsAsked t given
 
--- A session asks at most seven questions between two packets.
+-- A session asks at most eight questions between two packets.
 abbrev pub SessionsAreBounded : Type 0
-SessionsAreBounded = (id : ℕ) → Within 7 (session id)
+SessionsAreBounded = (id : ℕ) → Within 8 (session id)
 
 -- A stale answer changes nothing of what a session sends, nor of what follows: once, and twice.
 pub record StaleChangesNothing : Type 0 where

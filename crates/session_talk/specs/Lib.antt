@@ -1,5 +1,6 @@
 pub mod Texts
 pub mod Talk
+pub mod Statements
 pub mod Logins
 pub mod Turns
 pub mod Hearing

@@ -61,7 +61,7 @@ pub fn asks_are_answered()
     ensures fits { WhatFitsIsAsked }
 {}
 
-/// A session asks at most seven questions between two packets.
+/// A session asks at most eight questions between two packets.
 pub fn sessions_are_bounded()
     ensures { SessionsAreBounded }
 {}
