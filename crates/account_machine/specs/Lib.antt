@@ -10,7 +10,6 @@ pub mod Looks
 pub mod Openings
 pub mod Pasts
 pub mod Restarts
-pub mod Preparing
 pub mod Rows
 pub mod Stands
 pub mod Targets

@@ -20,8 +20,6 @@ pub mod machine;
 mod notes;
 mod openings;
 mod options;
-mod passwords;
-pub mod preparing;
 mod refusals;
 pub mod rows;
 pub mod stamps;
@@ -29,7 +27,6 @@ mod targets;
 #[cfg(test)]
 mod tests;
 
-pub use account_history::{Opening, Reply, StmtReply, Who};
+pub use account_history::{Opening, Prepared, Reply, StmtReply, Who, prepare};
 pub use loading::MachineFault;
 pub use machine::Accounts;
-pub use preparing::{Prepared, prepare};

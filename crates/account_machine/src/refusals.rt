@@ -13,7 +13,8 @@ ghost use Rattle.account_rules.specs.declared.accounts.Account.{Account};
 ghost use Rattle.password_history.specs.Laws.{AreSet};
 ghost use Rattle.std.specs.Prelude.{◌≡◌, ◌==◌, ◌&&◌, ◌||◌, not, true, drop, length, IfOk, option_copied, IfSome, ℕ, Option, Some, None};
 
-use crate::passwords::{is_empty, is_method, is_same, method_after, method_named};
+use account_history::passwords::{is_empty, is_method, is_same, method_after, method_named};
+use account_history::setting::{auth_of, new_password, password_of};
 use account_rules::{Account, Limit, Settings};
 use factor_chain::Method;
 use lg_base::{Bytes, Code, Host, Memory, Name, Operation};
@@ -29,27 +30,6 @@ const LONGEST_USER: usize = 32;
 const LONGEST_LABEL: usize = 64;
 
 const LONGEST_PASSWORD: usize = 256;
-
-/// The new password with its method, if the statement has one.
-pub fn auth_of(statement: &Statement) -> Option<&Auth>
-    ensures { option_copied result ≡ auth_of statement.now }
-{
-    match statement {
-        Statement::Create { auth, .. } => auth.as_ref(),
-        Statement::Alter { change, .. } => match change {
-            Change::Password(auth) => Some(auth),
-            Change::Nothing => None,
-            Change::Discard => None,
-            Change::Add(..) => None,
-            Change::Modify(..) => None,
-            Change::DropFactor(_) => None,
-        },
-        Statement::Drop { .. } => None,
-        Statement::Flush => None,
-        Statement::Grant { .. } => None,
-        Statement::Revoke { .. } => None,
-    }
-}
 
 /// The further factors that the statement sets.
 fn factors_of(statement: &Statement) -> &[FactorAuth]
@@ -92,26 +72,6 @@ pub fn options_of(statement: &Statement) -> Options
         Statement::Flush => NO_OPTIONS,
         Statement::Grant { .. } => NO_OPTIONS,
         Statement::Revoke { .. } => NO_OPTIONS,
-    }
-}
-
-/// The password behind BY; without it the new password is empty.
-pub fn password_of(password: &Option<Bytes>) -> &[u8]
-    ensures { result.now ≡ password_of password.now }
-{
-    match password {
-        Some(password) => password.as_slice(),
-        None => b"",
-    }
-}
-
-/// The new password, which is empty where the statement has none.
-pub fn new_password(statement: &Statement) -> &[u8]
-    ensures { result.now ≡ new_password statement.now }
-{
-    match auth_of(statement) {
-        Some(auth) => password_of(&auth.password),
-        None => b"",
     }
 }
 

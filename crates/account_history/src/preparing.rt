@@ -1,12 +1,12 @@
 //! Statements that are prepared on a look, before they are committed.
 
-ghost use Rattle.account_machine.specs.Preparing.{PreparedOf, auth_set, is_preparable, fits_set, method_before, method_seen, past_seen, stored_by_auth, stored_for, stored_set};
+ghost use Rattle.account_history.specs.Preparing.{PreparedOf, auth_set, is_preparable, fits_set, method_before, method_seen, past_seen, stored_by_auth, stored_for, stored_set};
 ghost use Rattle.account_history.specs.Refusals.{new_password};
 ghost use Rattle.password_history.specs.Reuse.{used_of};
 ghost use Rattle.std.specs.Prelude.{◌≡◌, IfOk, IsTrue, option_copied};
 
 use crate::passwords::{method_after, stored_of};
-use crate::refusals::{auth_of, new_password, password_of};
+use crate::setting::{auth_of, new_password, password_of};
 use factor_chain::{InForce, Look, Method, PastRecord, Stored};
 use lg_base::{Items, Memory};
 use password_history::used;
@@ -31,7 +31,7 @@ pub struct Prepared {
 
 impl Model for Prepared {
     ghost use Rattle.std.specs.Prelude.{◌≡◌, IsTrue};
-    ghost use Rattle.account_machine.specs.Preparing.{PreparedOf, fits_set, is_preparable, stored_set};
+    ghost use Rattle.account_history.specs.Preparing.{PreparedOf, fits_set, is_preparable, stored_set};
 
     ghost Value = { PreparedOf };
 
@@ -134,7 +134,7 @@ pub fn prepare(
 }
 
 impl Prepared {
-    ghost use Rattle.account_machine.specs.Preparing.{is_preparable};
+    ghost use Rattle.account_history.specs.Preparing.{is_preparable};
     ghost use Rattle.std.specs.Prelude.{◌≡◌, IsTrue};
 
     /// The look that the statement was prepared on.
