@@ -8,6 +8,7 @@ pub mod Owed
 pub mod Wired
 pub mod Conversation
 pub mod Bounds
+pub mod Doable
 pub mod Laws
 pub mod Runs
 pub mod Transcript

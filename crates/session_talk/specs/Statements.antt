@@ -8,7 +8,7 @@
 -- sandbox.
 --
 -- MySQL 8.0 Reference Manual, "Account Management Statements" and "Server Handling of Expired Passwords".
-use Rattle.std.specs.Prelude.{ℕ, Bool, true, false, ◌&&◌, ◌||◌, not, List, length, replicate, Option, Some, None, is_some, Result, Ok, Err}
+use Rattle.std.specs.Prelude.{ℕ, Bool, true, false, ◌&&◌, ◌||◌, not, List, [], ◌∷◌, length, replicate, Option, Some, None, is_some, Result, Ok, Err}
 use Rattle.std.specs.Str.{bytes_eq}
 use Rattle.lg_base.specs.declared.errors.Code.TheVariants as code
 use Rattle.lg_base.specs.declared.names.Name.{Name}
@@ -34,9 +34,10 @@ use Rattle.session_talk.specs.declared.open_session.OpenSession.{OpenSession}
 
 -- ## Reading
 
--- what a text is read to: a statement, or the place of the first token at which none fits
+-- what a text is read to: a statement with no token behind it, or the place of the first token at which none fits
 abbrev pub read_to : (size : ℕ) → Read Statement → Result Statement ℕ
-read_to size (Ok (statement, rest)) = Ok statement
+read_to size (Ok (statement, [])) = Ok statement
+read_to size (Ok (statement, token ∷ rest)) = Err token.place
 read_to size (Err rest) = Err (place_of size rest)
 
 abbrev pub statement_in : (text : List ℕ) → Result Statement ℕ
