@@ -1,6 +1,8 @@
 -- A statement that is prepared on a look, before it is committed: what is stored of its new password, and which of the past
 -- passwords that are seen it fits.
-use Rattle.std.specs.Prelude.{ℕ, nat_le, Bool, true, false, if◌then◌else◌, List, [], length, Option, Some, None}
+use Rattle.std.specs.Prelude.{◌≡◌, ℕ, nat_le, Bool, true, false, if◌then◌else◌, List, [], length, Option, Some, None}
+use Rattle.std.specs.List.{All}
+use Rattle.sha256_crypt.specs.Alphabet.{IsSaltByte}
 use Rattle.factor_chain.specs.declared.credentials.InForce.{InForce}
 use Rattle.factor_chain.specs.declared.credentials.Look.{Look}
 use Rattle.factor_chain.specs.declared.credentials.Method.{Method}
@@ -24,6 +26,10 @@ pub record PreparedOf : Type 0 where
   pub statement : Statement
   pub salt : List ℕ
   pub actor : ℕ
+
+-- 20 bytes of the alphabet of salts
+abbrev pub IsSalt : List ℕ → Type 0
+IsSalt salt = (length salt ≡ 20) × All IsSaltByte salt
 
 -- the statements that may set a password
 abbrev pub is_preparable : Statement → Bool

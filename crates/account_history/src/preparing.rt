@@ -2,7 +2,10 @@
 
 ghost use Rattle.account_history.specs.Preparing.{PreparedOf, auth_set, is_preparable, fits_set, method_before, method_seen, past_seen, stored_by_auth, stored_for, stored_set};
 ghost use Rattle.account_history.specs.Refusals.{new_password};
+ghost use Rattle.account_history.specs.Sound.{IsWritten};
 ghost use Rattle.password_history.specs.Reuse.{used_of};
+ghost use Rattle.sha256_crypt.specs.Alphabet.{IsSaltByte};
+ghost use Rattle.std.specs.List.{All};
 ghost use Rattle.std.specs.Prelude.{◌≡◌, IfOk, IsTrue, option_copied};
 
 use crate::passwords::{method_after, stored_of};
@@ -18,7 +21,8 @@ use stmt_rules::{Auth, Statement};
 const LONGEST_PASSWORD: usize = 256;
 
 /// A CREATE USER or an ALTER USER that was prepared on a look. Its type keeps what is stored of the new password, and
-/// which of the past passwords that the look shows it fits.
+/// which of the past passwords that the look shows it fits. It also keeps that the statement is as the grammar has it, and
+/// that the salt is of the alphabet of salts.
 #[derive(Debug, Drop)]
 pub struct Prepared {
     look: Look,
@@ -32,12 +36,17 @@ pub struct Prepared {
 impl Model for Prepared {
     ghost use Rattle.std.specs.Prelude.{◌≡◌, IsTrue};
     ghost use Rattle.account_history.specs.Preparing.{PreparedOf, fits_set, is_preparable, stored_set};
+    ghost use Rattle.account_history.specs.Sound.{IsWritten};
+    ghost use Rattle.sha256_crypt.specs.Alphabet.{IsSaltByte};
+    ghost use Rattle.std.specs.List.{All};
 
     ghost Value = { PreparedOf };
 
     ghost view = { λ p. record { look = p.look; statement = p.statement; salt = p.salt; actor = p.actor } };
 
     ghost invariant = { λ p. IsTrue (is_preparable p.statement)
+        × IsWritten p.statement
+        × All IsSaltByte p.salt
         × (p.stored ≡ stored_set (record { look = p.look; statement = p.statement; salt = p.salt; actor = p.actor }))
         × (p.fits ≡ fits_set (record { look = p.look; statement = p.statement; salt = p.salt; actor = p.actor })) };
 }
@@ -109,7 +118,7 @@ fn past_seen(seen: &Option<InForce>) -> &[PastRecord]
 
 /// Prepares a CREATE USER or an ALTER USER that the account with the number `actor` asks for, on a look at the account
 /// that it is about: computes what is stored of the new password with the salt, and which of the past passwords it fits.
-/// `Memory` is the only error.
+/// The statement is one that the grammar gives, and the salt is of the alphabet of salts. `Memory` is the only error.
 pub fn prepare(
     alloc: Global,
     look: Look,
@@ -117,7 +126,9 @@ pub fn prepare(
     salt: &[u8; 20],
     actor: u64,
 ) -> Result<Prepared, Memory>
-    requires { IsTrue (is_preparable statement) }
+    requires kind { IsTrue (is_preparable statement) }
+    requires written { IsWritten statement }
+    requires letters { All IsSaltByte salt.now }
     ensures { IfOk result (λ p. p ≡ record { look = look; statement = statement; salt = salt.now; actor = actor }) }
 {
     let method = method_before(&statement, &look.in_force);
@@ -135,6 +146,9 @@ pub fn prepare(
 
 impl Prepared {
     ghost use Rattle.account_history.specs.Preparing.{is_preparable};
+    ghost use Rattle.account_history.specs.Sound.{IsWritten};
+    ghost use Rattle.sha256_crypt.specs.Alphabet.{IsSaltByte};
+    ghost use Rattle.std.specs.List.{All};
     ghost use Rattle.std.specs.Prelude.{◌≡◌, IsTrue};
 
     /// The look that the statement was prepared on.
@@ -148,13 +162,15 @@ impl Prepared {
     pub fn statement(&self) -> &Statement
         ensures statement { result.now ≡ self.now.statement }
         ensures kind { IsTrue (is_preparable result.now) }
+        ensures written { IsWritten result.now }
     {
         &self.statement
     }
 
-    /// The salt.
+    /// The salt, which is of the alphabet of salts.
     pub fn salt(&self) -> &[u8; 20]
-        ensures { result.now ≡ self.now.salt }
+        ensures salt { result.now ≡ self.now.salt }
+        ensures letters { All IsSaltByte result.now }
     {
         &self.salt
     }
@@ -168,7 +184,9 @@ impl Prepared {
 
     /// The statement. What was prepared is given up.
     pub fn into_statement(self) -> Statement
-        ensures { result ≡ self.statement }
+        ensures statement { result ≡ self.statement }
+        ensures kind { IsTrue (is_preparable result) }
+        ensures written { IsWritten result }
     {
         self.statement
     }

@@ -24,6 +24,7 @@ use Rattle.account_history.specs.Records.{in_force, records}
 use Rattle.account_history.specs.Verifying.{account_verifies}
 use Rattle.account_history.proofs.Moments.{failures-upto, upto-get}
 use Rattle.account_history.proofs.OneMore.{failures-on, history-noted}
+use Rattle.account_machine.proofs.Holding.{later-holds}
 use Rattle.account_machine.proofs.Places.{in_force-place, item-at, place-within}
 use Rattle.account_machine.proofs.Written.{accounts-rows, rows-observed}
 use Rattle.account_machine.specs.declared.rows.Row.{Row}
@@ -116,8 +117,7 @@ stands-attempted log t rows new settings before now numbers stamps changes log' 
       same_numbers = s.same_numbers;
       rising = s.rising;
       up_to = s.up_to;
-      few_labels = s.few_labels;
-      set_past = s.set_past;
+      fits = later-holds (moment (history log)) (max t.reading (moment (history log))) (records (history log)) (omega arith) s.fits;
       legal = (s.legal, a);
     })
 
@@ -134,7 +134,6 @@ stands-observed log who look rows settings now numbers stamps changes log' s e a
       same_numbers = s.same_numbers;
       rising = s.rising;
       up_to = s.up_to;
-      few_labels = s.few_labels;
-      set_past = s.set_past;
+      fits = s.fits;
       legal = (s.legal, a);
     })

@@ -1,5 +1,5 @@
 -- What stands after a statement.
-use Rattle.std.proofs.Common.{◌≡◌, refl, ap, sym, ◌∙◌, subst, ℕ, ◌+◌, ◌≤◌, max, List, Bool, true, false, Option, None, option_map, Result, Ok, Err, IfOk, OnErr, if◌then◌else◌, arith}
+use Rattle.std.proofs.Common.{◌≡◌, refl, ap, sym, ◌∙◌, subst, ℕ, ◌+◌, ◌<◌, ◌≤◌, ◌^◌, max, List, All, find, Bool, true, false, Option, None, option_map, Result, Ok, Err, IfOk, OnErr, if◌then◌else◌, arith}
 use Rattle.lg_base.specs.declared.allocation.Memory.{Memory}
 use Rattle.lg_base.specs.declared.errors.Code.{Code}
 use Rattle.lg_outside.specs.declared.keepers.Row.{Row as Kept}
@@ -13,29 +13,32 @@ use Rattle.account_history.specs.declared.entries.StmtReply.{StmtReply}
 use Rattle.account_history.specs.declared.entries.StmtReply.TheVariants.{Done, Refused}
 use Rattle.account_history.specs.Answers.{statement_refusal}
 use Rattle.account_history.specs.Given.{Given, given, given_after}
-use Rattle.account_history.specs.Histories.{History, ◌▹◌, history, moment, noted}
+use Rattle.account_history.specs.Histories.{History, ◌▹◌, history, moment, noted, start_of}
 use Rattle.account_history.specs.Legal.{IsExecuted, last_count}
 use Rattle.account_history.specs.Numbers.{RiseTo}
+use Rattle.account_history.specs.Naming.{has_id}
+use Rattle.account_history.specs.Preparing.{IsSalt}
 use Rattle.account_history.specs.Records.{records}
+use Rattle.account_history.specs.Sound.{IsWritten}
 use Rattle.account_history.specs.Stamps.{clears_user, stamp}
 use Rattle.account_history.specs.Targets.{target_of}
+use Rattle.account_history.proofs.Accepted.{IsAccepted, accepted}
 use Rattle.account_history.proofs.Numbered.{rise-effect}
 use Rattle.account_history.proofs.OneMore.{failures-executed, history-noted}
 use Rattle.account_machine.specs.Clearing.{cleared_user, raises}
 use Rattle.account_machine.specs.Committing.{execution_of}
 use Rattle.account_machine.specs.Counting.{stamp_in}
 use Rattle.account_machine.specs.Executing.{NextFits, given_of, kept_after, rows_after}
-use Rattle.account_machine.specs.Labels.{HasFewLabels}
+use Rattle.account_machine.specs.Fitting.{FitsAt}
 use Rattle.account_machine.specs.Looks.{accounts_of}
-use Rattle.account_machine.specs.Pasts.{HasSetPast}
 use Rattle.account_machine.specs.Rows.{row_of, rows_of}
 use Rattle.account_machine.specs.Stands.{Stands}
 use Rattle.account_machine.specs.declared.executing.Numbers.{Numbers}
 use Rattle.account_machine.specs.declared.rows.Row.{Row}
 use Rattle.account_machine.specs.declared.stamps.Stamps.{Stamps}
 use Rattle.account_machine.proofs.Answered.{done-answered}
-use Rattle.account_machine.proofs.Effected.{all-effect, few-labels, set-past}
 use Rattle.account_machine.proofs.Follows.{rise-of, rows-follow}
+use Rattle.account_machine.proofs.Holding.{effect-holds, later-holds, next-fits}
 use Rattle.account_machine.proofs.Raises.{raises-cleared}
 use Rattle.account_machine.proofs.Written.{accounts-rows, map-agree, row-same}
 
@@ -68,8 +71,7 @@ stands-same rows new settings now numbers stamps next changes h s r t = record {
   same_stamps = record { same = λ user. t user ∙ s.same_stamps.same user; most = s.same_stamps.most };
   rising = s.rising;
   up_to = s.up_to;
-  few_labels = s.few_labels;
-  set_past = s.set_past;
+  fits = s.fits;
   legal = s.legal;
 }
 
@@ -94,8 +96,7 @@ stands-refused log st salt actor reading count code rows settings before now num
       same_stamps = record { same = s.same_stamps.same; most = s.same_stamps.most };
       rising = s.rising;
       up_to = s.up_to;
-      few_labels = s.few_labels;
-      set_past = s.set_past;
+      fits = later-holds (moment h) (max reading (moment h)) (records h) (omega arith) s.fits;
       legal = (s.legal, a);
     })
 
@@ -123,12 +124,28 @@ module _ (log : Log) (st : Statement) (salt : List ℕ) (actor reading count : �
       ∙ ap (λ (n : ℕ). option_map (kept_after st (given (history log)) actor salt n (accounts_of rows)) told) m
       ∙ ap (λ (xs : List Account). option_map (kept_after st (given (history log)) actor salt (max reading (moment (history log))) xs) told) same-accounts
 
-  fits-history : NextFits st (given_of numbers) actor salt now (accounts_of rows)
-      → NextFits st (given (history log)) actor salt (max reading (moment (history log))) (records (history log))
-  fits-history f =
-      subst (λ (xs : List Account). NextFits st (given (history log)) actor salt (max reading (moment (history log))) xs) same-accounts
-      (subst (λ (n : ℕ). NextFits st (given (history log)) actor salt n (accounts_of rows)) m
-      (subst (λ (g : Given). NextFits st g actor salt now (accounts_of rows)) s.same_numbers f))
+  abbrev own : Option Account
+  own = find (has_id actor) (records (history log))
+
+  accepted-here : statement_refusal (history log) st actor reading ≡ None
+      → IsAccepted actor own (target_of (records (history log)) st actor) st (start_of (history log)).settings (max reading (moment (history log)))
+  accepted-here none = accepted (records (history log)) st actor (start_of (history log)).settings (max reading (moment (history log))) none
+
+  later-all : All (FitsAt (max reading (moment (history log)))) (records (history log))
+  later-all = later-holds (moment (history log)) (max reading (moment (history log))) (records (history log)) (omega arith) s.fits
+
+  below : now < 2 ^ 64 → max reading (moment (history log)) < 2 ^ 64
+  below bound = subst (λ (n : ℕ). n < 2 ^ 64) m bound
+
+  -- the account that the statement makes or changes has a record
+  pub next-fits-here : statement_refusal (history log) st actor reading ≡ None → IsWritten st → IsSalt salt → now < 2 ^ 64
+      → NextFits st (given_of numbers) actor salt now (accounts_of rows)
+  next-fits-here none written letters bound =
+      subst (λ (g : Given). NextFits st g actor salt now (accounts_of rows)) (sym s.same_numbers)
+      (subst (λ (n : ℕ). NextFits st (given (history log)) actor salt n (accounts_of rows)) (sym m)
+      (subst (λ (xs : List Account). NextFits st (given (history log)) actor salt (max reading (moment (history log))) xs) (sym same-accounts)
+      (next-fits (given (history log)) actor salt (max reading (moment (history log))) letters (below bound) st own (start_of (history log)).settings
+      (records (history log)) written (accepted-here none) later-all)))
 
   rows-done : (new : List Row) → new ≡ rows_after st (given_of numbers) actor salt now rows → new ≡ rows_of (history log ▹ Executed done)
   rows-done new r =
@@ -153,15 +170,14 @@ module _ (log : Log) (st : Statement) (salt : List ℕ) (actor reading count : �
   pub stands-done : (new : List Row) (next : Numbers) (stamps' : Stamps) (changes' : ℕ) (log' : Log)
       → statement_refusal (history log) st actor reading ≡ None → last_count (history log) ≤ count
       → new ≡ rows_after st (given_of numbers) actor salt now rows
-      → NextFits st (given_of numbers) actor salt now (accounts_of rows)
+      → IsWritten st → IsSalt salt → now < 2 ^ 64
       → given_of next ≡ given_after (given_of numbers) st
       → ((user : List ℕ) → stamp_in stamps' user ≡ (if raises st (cleared_user st (target_of (accounts_of rows) st actor)) user then stamp_in stamps user + 1 else stamp_in stamps user))
       → changes' ≡ changes + 1
       → log' ≡ noted log (Executed (execution_of (history log) st salt actor reading count Done))
       → Stands new settings now next stamps' changes' (history log')
-  stands-done new next stamps' changes' log' none counted r f g t c e =
+  stands-done new next stamps' changes' log' none counted r written letters bound g t c e =
       let P : History → Type 0 = λ k. Stands new settings now next stamps' changes' k in
-      let fits = fits-history f in
       subst P (sym (ap history e ∙ history-noted log (Executed done))) (record {
         same_rows = rows-done new r;
         same_settings = s.same_settings;
@@ -173,7 +189,6 @@ module _ (log : Log) (st : Statement) (salt : List ℕ) (actor reading count : �
         };
         rising = rise-of 0 (given (history log ▹ Executed done)).account (records (history log ▹ Executed done)) up-done;
         up_to = up-done;
-        few_labels = all-effect HasFewLabels few-labels st (given (history log)) actor salt (max reading (moment (history log))) (records (history log)) s.few_labels fits;
-        set_past = all-effect HasSetPast set-past st (given (history log)) actor salt (max reading (moment (history log))) (records (history log)) s.set_past fits;
+        fits = effect-holds (given (history log)) actor salt (max reading (moment (history log))) letters (below bound) st own (start_of (history log)).settings (records (history log)) written (accepted-here none) later-all;
         legal = (s.legal, done-answered (history log) st salt actor reading count none counted);
       })

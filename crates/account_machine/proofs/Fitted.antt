@@ -42,10 +42,10 @@ use Rattle.account_history.specs.Given.{Given}
 use Rattle.account_history.specs.Histories.{latest_past}
 use Rattle.account_history.specs.Options.{attempts_after, lifetime_after, limit_after, time_after, with_options}
 use Rattle.account_history.specs.Passwords.{method_after, password_of, recorded, same_method, secondary_after, stored_of, with_password}
+use Rattle.account_history.specs.Preparing.{IsSalt}
 use Rattle.account_history.specs.Refusals.{attempts_fit, auth_in, bound_fits, expire_fits, factors_in, has_zero, is_bad_label, is_bad_user, is_within, misfits, options_fit, retains, time_fits}
 use Rattle.account_history.specs.Sound.{AddsAtMostThird}
 use Rattle.account_history.proofs.Soundness.{few-changed}
-use Rattle.account_machine.specs.Restarts.{IsSalt}
 
 -- ## Tests
 
@@ -57,18 +57,22 @@ pub or-neither : (x y : Bool) → (x || y) ≡ false → (x ≡ false) × (y ≡
 or-neither false y e = (refl, e)
 or-neither true y e = absurd (cc)
 
-not-true : (x : Bool) → not x ≡ false → x ≡ true
+pub not-true : (x : Bool) → not x ≡ false → x ≡ true
 not-true true e = refl
 not-true false e = absurd (cc)
 
-at-most : (n most : ℕ) → nat_le n most ≡ true → n ≤ most
+pub not-false : (x : Bool) → not x ≡ true → x ≡ false
+not-false true e = absurd (cc)
+not-false false e = refl
+
+pub at-most : (n most : ℕ) → nat_le n most ≡ true → n ≤ most
 at-most n most e = leb-true n most e
 
-some-byte : (n : ℕ) → (n == 0) ≡ false → 1 ≤ n
+pub some-byte : (n : ℕ) → (n == 0) ≡ false → 1 ≤ n
 some-byte zero e = absurd (cc)
 some-byte (suc n) e = omega arith
 
-no-zero : (bytes : List ℕ) → has_zero bytes ≡ false → Contains bytes 0 → ⊥
+pub no-zero : (bytes : List ℕ) → has_zero bytes ≡ false → Contains bytes 0 → ⊥
 no-zero [] e c = absurd (let h = c.1 in omega arith)
 no-zero (b ∷ bytes) e c =
     let both = or-neither (b == 0) (has_zero bytes) e in
@@ -97,7 +101,7 @@ sha1-bytes : (m : List ℕ) → All (λ x. x < 256) (sha1 m)
 unfolding sha1
 sha1-bytes m = digest-bytes _ 5
 
-stage2-digest : (password : List ℕ) → IsDigest (native_stage2 password)
+pub stage2-digest : (password : List ℕ) → IsDigest (native_stage2 password)
 stage2-digest password = (length-sha1 (sha1 password), sha1-bytes (sha1 password))
 
 encoded-length : (c : List ℕ) → length (encoded c) ≡ 43
@@ -117,7 +121,7 @@ stored-fits m salt [] s = (tt, tt)
 stored-fits method.Native salt (b ∷ password) s = (tt, stage2-digest (b ∷ password))
 stored-fits method.CachingSha2 salt (b ∷ password) s =
     let sum = sum-fits (b ∷ password) salt 5000 in
-    (tt, (record { some_rounds = omega arith; most_rounds = omega arith; salt = s.1; sum = sum.1 }, s.0, sum.0))
+    (tt, (record { some_rounds = omega arith; most_rounds = omega arith; salt = λ k d h. sum-byte _ (s.1 k d h); sum = sum.1 }, s.0, sum.0))
 
 set-stored : (kept : Stored) → is_empty kept ≡ false → IsSet kept
 set-stored stored.Empty e = absurd (cc)

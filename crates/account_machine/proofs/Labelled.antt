@@ -1,9 +1,7 @@
 -- Each account, and so each that is seen, has at most two further factors.
 use Rattle.std.proofs.Common.{◌≡◌, sym, subst, ℕ, ◌+◌, List, [], ◌∷◌, find, cond, suc, Bool, true, false, Option, Some, None, IfSome, Result, Ok, Err, IfOk, All, arith}
-use Rattle.std.proofs.lemmas.List.Elements.{All-cons}
 use Rattle.factor_chain.specs.declared.credentials.Look.{Look}
 use Rattle.account_rules.specs.declared.accounts.Account.{Account}
-use Rattle.account_history.specs.declared.entries.Opening.{Opening}
 use Rattle.account_history.specs.declared.entries.Who.{Who}
 use Rattle.account_history.specs.declared.entries.Who.TheVariants as who
 use Rattle.account_history.specs.Answers.{look_of, shown_login, shown_whole}
@@ -11,16 +9,6 @@ use Rattle.account_history.specs.Histories.{History}
 use Rattle.account_history.specs.Records.{has_id, in_force, is_at, is_named, or_else, records}
 use Rattle.lg_base.specs.declared.names.Host.TheVariants as host
 use Rattle.account_machine.specs.Labels.{HasFewLabels, ShowsFewLabels}
-use Rattle.account_machine.specs.Openings.{native_accounts, opening_accounts, root_account}
-
--- ## The accounts of a start
-
-native-few : (id : ℕ) (xs : List Opening) → All HasFewLabels (native_accounts id xs)
-native-few id [] = λ k d h. absurd (omega arith)
-native-few id (x ∷ xs) = All-cons HasFewLabels _ (native_accounts (id + 1) xs) (omega arith) (native-few (id + 1) xs)
-
-pub opening-few : (extra : List Opening) → All HasFewLabels (opening_accounts extra)
-opening-few extra = All-cons HasFewLabels root_account (native_accounts 2 extra) (omega arith) (native-few 2 extra)
 
 -- ## What is seen
 

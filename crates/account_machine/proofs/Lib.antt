@@ -1,11 +1,11 @@
 mod Answered
 mod Attempts
 mod Committed
-mod Effected
 mod Executed
 mod Fitted
 mod Follows
 mod Found
+mod Holding
 mod Labelled
 mod Places
 mod Raised

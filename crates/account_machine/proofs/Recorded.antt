@@ -1,7 +1,7 @@
 -- Rows that are records, read from the front on.
-use Rattle.std.proofs.Common.{◌≡◌, ◌≢◌, refl, ap, sym, ◌∙◌, ℕ, zero, suc, ◌+◌, ◌*◌, ◌<◌, ◌≤◌, max, List, [], ◌∷◌, ◌++◌, length, map, take, drop, find, Bool, true, false, Option, Some, None, slice_get, slice_set, slice_index_or, option_map, Result, Ok, Err, IfErr, IsErrAnd, subst, arith, drop-cons}
+use Rattle.std.proofs.Common.{◌≡◌, ◌≢◌, refl, ap, sym, ◌∙◌, ℕ, zero, suc, ◌+◌, ◌*◌, ◌<◌, ◌≤◌, max, List, [], ◌∷◌, ◌++◌, length, map, take, drop, find, Bool, true, false, nat_lt, ltb-true, ltb-false, length-append, Option, Some, None, slice_get, slice_set, slice_index_or, option_map, Result, Ok, Err, IfErr, IsErrAnd, subst, arith, drop-cons}
 use Rattle.std.specs.List.{AllZip}
-use Rattle.std.proofs.lemmas.List.{map-append, take-append-drop, take_all, take_more}
+use Rattle.std.proofs.lemmas.List.{length-take, map-append, take-append-drop, take-append-le, take_all, take_more}
 use Rattle.std.proofs.lemmas.Option.{get_or_from_slice_get}
 use Rattle.factor_chain.specs.declared.credentials.Stored.{Stored}
 use Rattle.lg_outside.specs.declared.keepers.Row.{Row as Kept}
@@ -13,7 +13,7 @@ use Rattle.account_history.specs.Naming.{is_named}
 use Rattle.account_history.specs.Sound.{NamesDiffer}
 use Rattle.account_history.proofs.Numbered.{passed, passing}
 use Rattle.account_history.proofs.Soundness.{names-created, named-back}
-use Rattle.account_machine.specs.Loading.{AreLoadable, IsFault, IsFirstBad, IsRowFault, IsRowOf, Loads, last_number, loaded_accounts, numbered, numbered_account, numbered_rows, numbered_secondary, passwords_of}
+use Rattle.account_machine.specs.Loading.{AreLoadable, IsFault, IsFirstBad, IsRowFault, IsRowOf, Loads, Names, Refuses, last_number, loaded_accounts, numbered, numbered_account, numbered_rows, numbered_secondary, passwords_of}
 use Rattle.account_machine.specs.Looks.{account_at, accounts_of, place_named}
 use Rattle.account_machine.specs.Openings.{root_account}
 use Rattle.account_machine.specs.Rows.{new_rows}
@@ -32,6 +32,39 @@ zip-push R [] [] x y all one = (one, tt)
 zip-push R [] (b ∷ ys) x y all one = absurd all
 zip-push R (a ∷ xs) [] x y all one = absurd all
 zip-push R (a ∷ xs) (b ∷ ys) x y all one = (all.0, zip-push R xs ys x y all.1 one)
+
+zip-take : {A B : Type 0} (R : A → B → Type 0) (n : ℕ) (xs : List A) (ys : List B) → AllZip R xs ys → AllZip R (take n xs) (take n ys)
+zip-take R zero xs ys all = tt
+zip-take R (suc n) [] [] all = tt
+zip-take R (suc n) [] (b ∷ ys) all = absurd all
+zip-take R (suc n) (a ∷ xs) [] all = absurd all
+zip-take R (suc n) (a ∷ xs) (b ∷ ys) all = (all.0, zip-take R n xs ys all.1)
+
+zip-split : {A B : Type 0} (R : A → B → Type 0) (xs : List A) (x : A) (ys : List B) → AllZip R (xs ++ x ∷ []) ys
+    → (zs : List B) × (z : B) × (ys ≡ zs ++ z ∷ []) × AllZip R xs zs × R x z
+zip-split R [] x [] all = absurd all
+zip-split R [] x (b ∷ []) all = ([], b, refl, tt, all.0)
+zip-split R [] x (b ∷ c ∷ ys) all = absurd all.1
+zip-split R (a ∷ xs) x [] all = absurd all
+zip-split {A} {B} R (a ∷ xs) x (b ∷ ys) all =
+    let later = zip-split R xs x ys all.1 in
+    (b ∷ later.0, later.1, ap (λ (zs : List B). b ∷ zs) later.2, (all.0, later.3), later.4)
+
+-- the element behind a front, and one in it
+at-end : {A : Type 0} (front : List A) (x d : A) (rest : List A) → slice_index_or (front ++ x ∷ rest) (length front) d ≡ x
+at-end [] x d rest = refl
+at-end (a ∷ front) x d rest = at-end front x d rest
+
+in-front : {A : Type 0} (front more : List A) (i : ℕ) (d : A) → i < length front → slice_index_or (front ++ more) i d ≡ slice_index_or front i d
+in-front [] more i d h = absurd (omega arith)
+in-front (a ∷ front) more zero d h = refl
+in-front (a ∷ front) more (suc i) d h = in-front front more i d (omega arith)
+
+in-taken : {A : Type 0} (n : ℕ) (xs : List A) (i : ℕ) (d : A) → i < n → slice_index_or (take n xs) i d ≡ slice_index_or xs i d
+in-taken zero xs i d h = absurd (omega arith)
+in-taken (suc n) [] i d h = refl
+in-taken (suc n) (x ∷ xs) zero d h = refl
+in-taken (suc n) (x ∷ xs) (suc i) d h = in-taken n xs i d (omega arith)
 
 -- one more row with a record whose name is new
 pub loadable-more : (rows : List Kept) (accounts : List Account) (row : Kept) (a : Account) → AreLoadable rows accounts → IsRowOf row a
@@ -70,6 +103,12 @@ pub accounts-new : (accounts : List Account) → accounts_of (new_rows accounts)
 accounts-new [] = refl
 accounts-new (a ∷ accounts) = ap (λ rest. a ∷ rest) (accounts-new accounts)
 
+zip-length : (rows : List Kept) (accounts : List Account) → AllZip IsRowOf rows accounts → length accounts ≡ length rows
+zip-length [] [] all = refl
+zip-length [] (a ∷ accounts) all = absurd all
+zip-length (row ∷ rows) [] all = absurd all
+zip-length (row ∷ rows) (a ∷ accounts) all = let later = zip-length rows accounts all.1 in omega arith
+
 -- ## Rows that were read
 
 -- as many rows as this were read, from the front on
@@ -77,9 +116,20 @@ pub record IsRead (kept : List Kept) (i : ℕ) (rows : List Row) : Type 0 where
   pub good : AreLoadable (take i kept) (accounts_of rows)
   pub new : rows ≡ new_rows (accounts_of rows)
   pub found : (accounts : List Account) → AreLoadable kept accounts → accounts_of rows ≡ take i accounts
+  pub only : (n : ℕ) (accounts : List Account) → n ≤ i → AllZip IsRowOf (take n kept) accounts → accounts ≡ take n (accounts_of rows)
+
+no-account : (n : ℕ) (kept : List Kept) (accounts : List Account) → n ≤ 0 → AllZip IsRowOf (take n kept) accounts → accounts ≡ take n []
+no-account zero kept [] h all = refl
+no-account zero kept (a ∷ accounts) h all = absurd all
+no-account (suc n) kept accounts h all = absurd (omega arith)
 
 pub none-read : (kept : List Kept) → IsRead kept 0 []
-none-read kept = record { good = record { records = tt; names = tt }; new = refl; found = λ accounts good. refl }
+none-read kept = record {
+  good = record { records = tt; names = tt };
+  new = refl;
+  found = λ accounts good. refl;
+  only = λ n accounts h all. no-account n kept accounts h all;
+}
 
 module _ (kept : List Kept) (i : ℕ) (item : Kept) (rows : List Row) (h : i < length kept) (is : item ≡ slice_index_or kept i item) (read : IsRead kept i rows) where
   -- the next account of rows that can be loaded
@@ -95,14 +145,37 @@ module _ (kept : List Kept) (i : ℕ) (item : Kept) (rows : List Row) (h : i < l
         taken-more accounts i a next.4 next.3 ∙ ap (λ (before : List Account). before ++ a ∷ []) (sym same),
       )
 
+  front : take (i + 1) kept ≡ take i kept ++ item ∷ []
+  front = take_more kept i item h ∙ ap (λ (x : Kept). take i kept ++ x ∷ []) (sym is)
+
+  long : length (accounts_of rows) ≡ i
+  long = let same = zip-length (take i kept) (accounts_of rows) read.good.records in let taken = length-take i kept in omega arith
+
+  -- the accounts of as many rows and one more
+  only-more : (account : Account) → ((a : Account) → IsRowOf item a → account ≡ a) → (n : ℕ) (accounts : List Account) → n ≤ i + 1
+      → AllZip IsRowOf (take n kept) accounts → accounts ≡ take n (accounts_of rows ++ account ∷ [])
+  only-more account every n accounts few all = cases (nat_lt i n) refl where
+    last : n ≡ i + 1 → accounts ≡ take n (accounts_of rows ++ account ∷ [])
+    last e =
+        let split = zip-split IsRowOf (take i kept) item accounts (subst (λ (ks : List Kept). AllZip IsRowOf ks accounts) (ap (λ m. take m kept) e ∙ front) all) in
+        let before : split.0 ≡ accounts_of rows = read.only i split.0 (omega arith) split.3 ∙ take_all i (accounts_of rows) (omega (arith, long)) in
+        let more = length-append (accounts_of rows) (account ∷ []) in
+        split.2 ∙ ap (λ (xs : List Account). xs ++ split.1 ∷ []) before ∙ ap (λ (x : Account). accounts_of rows ++ x ∷ []) (sym (every split.1 split.4))
+        ∙ sym (take_all n (accounts_of rows ++ account ∷ []) (omega (arith, long, more, e)))
+
+    cases : (b : Bool) → nat_lt i n ≡ b → accounts ≡ take n (accounts_of rows ++ account ∷ [])
+    cases true e = last (let above = ltb-true i n e in omega arith)
+    cases false e =
+        let below = ltb-false i n e in
+        read.only n accounts (omega arith) all ∙ sym (take-append-le n (accounts_of rows) (account ∷ []) (omega (arith, long, below)))
+
   -- one more row is read
   pub read-more : (account : Account) (row : Row) (more : List Row) → IsRowOf item account → find (is_named account.name) (accounts_of rows) ≡ None
-      → ((a : Account) → IsRowOf item a → find (is_named a.name) (accounts_of rows) ≡ None → account ≡ a)
+      → ((a : Account) → IsRowOf item a → account ≡ a)
       → row ≡ record { account = account; tally = record { count = 0; locked = None } } → more ≡ rows ++ row ∷ [] → IsRead kept (i + 1) more
-  read-more account row more one new only r m =
+  read-more account row more one new every r m =
       let added : accounts_of more ≡ accounts_of rows ++ account ∷ [] =
       ap accounts_of m ∙ map-append (λ (x : Row). x.account) rows (row ∷ []) ∙ ap (λ (x : Row). accounts_of rows ++ x.account ∷ []) r in
-      let front : take (i + 1) kept ≡ take i kept ++ item ∷ [] = take_more kept i item h ∙ ap (λ (x : Kept). take i kept ++ x ∷ []) (sym is) in
       record {
         good = subst (λ (ks : List Kept). AreLoadable ks (accounts_of more)) (sym front)
             (subst (λ (accounts : List Account). AreLoadable (take i kept ++ item ∷ []) accounts) (sym added)
@@ -113,7 +186,8 @@ module _ (kept : List Kept) (i : ℕ) (item : Kept) (rows : List Row) (h : i < l
             ∙ ap new_rows (sym added);
         found = λ accounts good.
             let next = next-account accounts good in
-            added ∙ ap (λ (x : Account). accounts_of rows ++ x ∷ []) (only next.0 next.1 next.2) ∙ sym next.3;
+            added ∙ ap (λ (x : Account). accounts_of rows ++ x ∷ []) (every next.0 next.1) ∙ sym next.3;
+        only = λ n accounts few all. only-more account every n accounts few all ∙ ap (λ (xs : List Account). take n xs) (sym added);
       }
 
   -- a row that isn't read is the first bad one, unless memory was wanting
@@ -135,7 +209,70 @@ module _ (kept : List Kept) (i : ℕ) (item : Kept) (rows : List Row) (h : i < l
       → (accounts : List Account) → AreLoadable kept accounts → fault ≡ Memory
   wanting fault only accounts good = let next = next-account accounts good in only next.0 next.1 next.2
 
+-- ## The first bad row
+
+module _ (kept : List Kept) (i : ℕ) (rows : List Row) (h : i ≤ length kept) (read : IsRead kept i rows) (key : ℕ) (first : IsFirstBad kept key) where
+  taken-front : (n : ℕ) → n ≤ length first.before → take n kept ≡ take n first.before
+  taken-front n few = ap (λ (ks : List Kept). take n ks) first.stands ∙ take-append-le n first.before (first.row ∷ first.rest) few
+
+  -- it isn't read
+  unread : length first.before < i → ⊥
+  unread behind =
+      let n : ℕ = length first.before in
+      let same : first.accounts ≡ take n (accounts_of rows) =
+      read.only n first.accounts (omega arith)
+      (subst (λ (ks : List Kept). AllZip IsRowOf ks first.accounts) (sym (taken-front n (omega arith) ∙ take_all n first.before (omega arith))) first.good.records) in
+      let taken = length-take i kept in
+      let next = next-loadable (take i kept) (accounts_of rows) n first.row read.good.records read.good.names (omega arith) in
+      let row : slice_index_or (take i kept) n first.row ≡ first.row =
+      in-taken i kept n first.row behind ∙ ap (λ (ks : List Kept). slice_index_or ks n first.row) first.stands ∙ at-end first.before first.row first.row first.rest in
+      first.bad next.0 (subst (λ (k : Kept). IsRowOf k next.0) row next.1)
+      (ap (λ (accounts : List Account). find (is_named next.0.name) accounts) same ∙ next.2)
+
+  -- where all rows are read there is none
+  pub all-good : length kept ≤ i → ⊥
+  all-good whole =
+      let long : length kept ≡ length first.before + suc (length first.rest) =
+      ap (λ (ks : List Kept). length ks) first.stands ∙ length-append first.before (first.row ∷ first.rest) in
+      unread (omega (arith, long))
+
+  -- and a row that isn't read is it, unless memory was wanting
+  pub refused-first : (item : Kept) → item ≡ slice_index_or kept i item → (fault : MachineFault) → IsRowFault (accounts_of rows) item fault
+      → ((a : Account) → IsRowOf item a → find (is_named a.name) (accounts_of rows) ≡ None → fault ≡ Memory) → Names key fault
+  refused-first item is fault bad wants = cases (nat_lt i (length first.before)) refl (nat_lt (length first.before) i) refl where
+    earlier : i < length first.before → fault ≡ Memory
+    earlier before =
+        let next = next-loadable first.before first.accounts i item first.good.records first.good.names before in
+        let row : slice_index_or first.before i item ≡ item =
+        sym (in-front first.before (first.row ∷ first.rest) i item before) ∙ ap (λ (ks : List Kept). slice_index_or ks i item) (sym first.stands) ∙ sym is in
+        let same : take i first.accounts ≡ take i (accounts_of rows) =
+        read.only i (take i first.accounts) (omega arith)
+        (subst (λ (ks : List Kept). AllZip IsRowOf ks (take i first.accounts)) (sym (taken-front i (omega arith)))
+        (zip-take IsRowOf i first.before first.accounts first.good.records)) in
+        let long = zip-length (take i kept) (accounts_of rows) read.good.records in let taken = length-take i kept in
+        let whole : take i (accounts_of rows) ≡ accounts_of rows = take_all i (accounts_of rows) (omega arith) in
+        wants next.0 (subst (λ (k : Kept). IsRowOf k next.0) row next.1)
+        (ap (λ (accounts : List Account). find (is_named next.0.name) accounts) (sym (same ∙ whole)) ∙ next.2)
+
+    here : i ≡ length first.before → (f : MachineFault) → IsRowFault (accounts_of rows) item f → Names key f
+    here e (BadRow named) bad =
+        let row : item ≡ first.row =
+        is ∙ ap (λ (ks : List Kept). slice_index_or ks i item) first.stands ∙ ap (λ n. slice_index_or (first.before ++ first.row ∷ first.rest) n item) e
+        ∙ at-end first.before first.row item first.rest in
+        sym bad.1 ∙ ap (λ (k : Kept). k.key) row ∙ first.its_key
+    here e Memory bad = tt
+
+    cases : (b : Bool) → nat_lt i (length first.before) ≡ b → (c : Bool) → nat_lt (length first.before) i ≡ c → Names key fault
+    cases true e c f = subst (λ (x : MachineFault). Names key x) (sym (earlier (ltb-true i (length first.before) e))) tt
+    cases false e true f = absurd (unread (ltb-true (length first.before) i f))
+    cases false e false f = here (let above = ltb-false i (length first.before) e in let below = ltb-false (length first.before) i f in omega arith) fault bad
+
 -- a fault that is handed on
+pub handed-first : {A : Type 0} (result : Result A MachineFault) (key : ℕ) (fault : MachineFault) → IsErrAnd result (λ given. given ≡ fault)
+    → Names key fault → Refuses key result
+handed-first (Err given) key fault is names = subst (λ (x : MachineFault). Names key x) (sym is) names
+handed-first (Ok made) key fault is names = absurd is
+
 pub handed-bad : {A : Type 0} (result : Result A MachineFault) (kept : List Kept) (fault : MachineFault) → IsErrAnd result (λ given. given ≡ fault)
     → IsFault kept fault → IfErr result (IsFault kept)
 handed-bad (Err given) kept fault is bad = subst (IsFault kept) (sym is) bad
@@ -159,12 +296,6 @@ name-new rows name p = sym (found-in rows (is_named name)) ∙ ap (λ q. account
 
 pub all-read : (kept : List Kept) (i : ℕ) (rows : List Row) → length kept ≤ i → IsRead kept i rows → AreLoadable kept (accounts_of rows)
 all-read kept i rows h read = subst (λ (ks : List Kept). AreLoadable ks (accounts_of rows)) (take_all i kept h) read.good
-
-zip-length : (rows : List Kept) (accounts : List Account) → AllZip IsRowOf rows accounts → length accounts ≡ length rows
-zip-length [] [] all = refl
-zip-length [] (a ∷ accounts) all = absurd all
-zip-length (row ∷ rows) [] all = absurd all
-zip-length (row ∷ rows) (a ∷ accounts) all = let later = zip-length rows accounts all.1 in omega arith
 
 pub all-found : (kept : List Kept) (i : ℕ) (rows : List Row) → length kept ≤ i → IsRead kept i rows
     → (accounts : List Account) → AreLoadable kept accounts → accounts_of rows ≡ accounts

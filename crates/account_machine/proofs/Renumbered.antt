@@ -1,16 +1,14 @@
 -- The accounts that are loaded are a start on which the machine stands.
 use Rattle.std.proofs.Common.{◌≡◌, refl, ap, sym, ◌∙◌, ℕ, ◌+◌, ◌<◌, ◌≤◌, List, [], ◌∷◌, length, map, false, Option, Some, None, All, subst, arith}
 use Rattle.std.specs.List.{AllByRecursion, AllZip}
-use Rattle.std.proofs.lemmas.List.Elements.{All-cons, All-from_recursion, All-weaker}
+use Rattle.std.proofs.lemmas.List.Elements.{All-cons, All-from_recursion, All-nil}
 use Rattle.lg_outside.specs.Keeping.{Ascend, RiseAbove}
 use Rattle.lg_outside.specs.declared.keepers.Row.{Row as Kept}
-use Rattle.factor_chain.specs.Checking.{is_empty}
-use Rattle.factor_chain.specs.declared.credentials.PastRecord.{PastRecord}
+use Rattle.factor_chain.specs.declared.credentials.Method.{Method}
 use Rattle.factor_chain.specs.declared.credentials.Stored.{Stored}
-use Rattle.factor_chain.specs.declared.credentials.Stored.TheVariants as stored
 use Rattle.account_rules.specs.declared.accounts.Account.{Account}
 use Rattle.account_rules.specs.declared.accounts.Settings.{Settings}
-use Rattle.account_keeper.specs.Record.{IsSet, PastFits}
+use Rattle.account_keeper.specs.Record.{FitsRecord, SecondaryFits}
 use Rattle.account_history.specs.declared.entries.Log.{Log}
 use Rattle.account_history.specs.Given.{greatest_given}
 use Rattle.account_history.specs.Histories.{From, history, latest_moment}
@@ -18,11 +16,9 @@ use Rattle.account_history.specs.Numbers.{Rise}
 use Rattle.account_history.proofs.Numbered.{numbers-rise}
 use Rattle.account_machine.specs.Counting.{stamp_in}
 use Rattle.account_machine.specs.Executing.{given_of}
-use Rattle.account_machine.specs.Labels.{HasFewLabels}
-use Rattle.account_machine.specs.Loading.{AreLoadable, IsRowOf, Keeps, loaded, loaded_accounts, numbered, numbered_account, passwords_of}
+use Rattle.account_machine.specs.Loading.{AreLoadable, IsRowOf, Keeps, loaded, loaded_accounts, numbered, numbered_account, numbered_secondary, passwords_of}
 use Rattle.account_machine.specs.Looks.{accounts_of}
 use Rattle.account_machine.specs.Openings.{root_account}
-use Rattle.account_machine.specs.Pasts.{HasSetPast}
 use Rattle.account_machine.specs.Rows.{new_rows}
 use Rattle.account_machine.specs.Stands.{Stands}
 use Rattle.account_machine.specs.declared.executing.Numbers.{Numbers}
@@ -30,7 +26,7 @@ use Rattle.account_machine.specs.declared.loading.Loaded.{Loaded}
 use Rattle.account_machine.specs.declared.rows.Row.{Row}
 use Rattle.account_machine.specs.declared.stamps.Stamps.{Stamps}
 use Rattle.account_machine.proofs.Recorded.{accounts-new}
-use Rattle.account_machine.proofs.Starts.{rows-new}
+use Rattle.account_machine.proofs.Starts.{root-fits, rows-new, start-fits}
 
 -- ## Accounts that were read, numbered
 
@@ -46,46 +42,50 @@ numbered-rise low last (row ∷ rows) (a ∷ accounts) r all =
       subst (λ (n : ℕ). Rise n (numbered (last + passwords_of a.secondary) accounts)) (sym key) later,
     )
 
-numbered-few : (last : ℕ) (rows : List Kept) (accounts : List Account) → AllZip IsRowOf rows accounts → AllByRecursion HasFewLabels (numbered last accounts)
-numbered-few last [] [] all = tt
-numbered-few last [] (a ∷ accounts) all = absurd all
-numbered-few last (row ∷ rows) [] all = absurd all
-numbered-few last (row ∷ rows) (a ∷ accounts) all = (all.0.fits.labels.0, numbered-few (last + passwords_of a.secondary) rows accounts all.1)
+numbered-second : (last : ℕ) (m : Method) (primary : Stored) (second : Option (Stored × ℕ)) → SecondaryFits m primary second
+    → SecondaryFits m primary (numbered_secondary last second)
+numbered-second last m primary None fits = tt
+numbered-second last m primary (Some second) fits = fits
 
-not-empty : (kept : Stored) → IsSet kept → is_empty kept ≡ false
-not-empty stored.Empty set = absurd set
-not-empty (stored.Native digest) set = refl
-not-empty (stored.Sha2 value) set = refl
-
-numbered-set : (last : ℕ) (rows : List Kept) (accounts : List Account) → AllZip IsRowOf rows accounts → AllByRecursion HasSetPast (numbered last accounts)
-numbered-set last [] [] all = tt
-numbered-set last [] (a ∷ accounts) all = absurd all
-numbered-set last (row ∷ rows) [] all = absurd all
-numbered-set last (row ∷ rows) (a ∷ accounts) all = (
-  All-weaker PastFits (λ (p : PastRecord). is_empty p.stored ≡ false) (λ p fits. not-empty p.stored fits.2) a.past all.0.fits.past.1,
-  numbered-set (last + passwords_of a.secondary) rows accounts all.1,
-)
+numbered-fits : (last : ℕ) (rows : List Kept) (accounts : List Account) → AllZip IsRowOf rows accounts → AllByRecursion FitsRecord (numbered last accounts)
+numbered-fits last [] [] all = tt
+numbered-fits last [] (a ∷ accounts) all = absurd all
+numbered-fits last (row ∷ rows) [] all = absurd all
+numbered-fits last (row ∷ rows) (a ∷ accounts) all =
+    let fits = all.0.fits in (
+      record {
+        user = fits.user;
+        primary = fits.primary;
+        secondary = numbered-second (last + 2) a.method a.primary a.secondary fits.secondary;
+        labels = fits.labels;
+        changed = fits.changed;
+        lifetime = fits.lifetime;
+        history = fits.history;
+        reuse = fits.reuse;
+        attempts = fits.attempts;
+        lock_time = fits.lock_time;
+        past = fits.past;
+      },
+      numbered-fits (last + passwords_of a.secondary) rows accounts all.1,
+    )
 
 -- ## The accounts of a start
 
 pub record IsStart (accounts : List Account) : Type 0 where
   pub rising : Rise 0 accounts
-  pub few : All HasFewLabels accounts
-  pub set : All HasSetPast accounts
+  pub fits : All FitsRecord accounts
 
 loaded-start : (rows : List Kept) (accounts : List Account) → Ascend rows → AllZip IsRowOf rows accounts → IsStart (loaded_accounts accounts)
 loaded-start [] [] r all = record {
   rising = (omega arith, tt);
-  few = All-cons HasFewLabels root_account [] (omega arith) (λ k d h. absurd (omega arith));
-  set = All-cons HasSetPast root_account [] (λ k d h. absurd (omega arith)) (λ k d h. absurd (omega arith));
+  fits = All-cons FitsRecord root_account [] root-fits (All-nil FitsRecord);
 }
 loaded-start [] (a ∷ accounts) r all = absurd all
 loaded-start (row ∷ rows) [] r all = absurd all
 loaded-start (row ∷ rows) (a ∷ accounts) r all =
     let above = all.0.is_key.least in record {
       rising = numbered-rise 0 0 (row ∷ rows) (a ∷ accounts) (omega arith, r) all;
-      few = All-from_recursion HasFewLabels (numbered 0 (a ∷ accounts)) (numbered-few 0 (row ∷ rows) (a ∷ accounts) all);
-      set = All-from_recursion HasSetPast (numbered 0 (a ∷ accounts)) (numbered-set 0 (row ∷ rows) (a ∷ accounts) all);
+      fits = All-from_recursion FitsRecord (numbered 0 (a ∷ accounts)) (numbered-fits 0 (row ∷ rows) (a ∷ accounts) all);
     }
 
 stands-start : (accounts : List Account) (settings : Settings) (made : Loaded) (stamps : Stamps) (log : Log) → IsStart accounts → Keeps made accounts
@@ -102,8 +102,7 @@ stands-start accounts settings made stamps log start keeps none e =
       same_numbers = keeps.numbers;
       rising = start.rising;
       up_to = numbers-rise (From first.start) start.rising;
-      few_labels = start.few;
-      set_past = start.set;
+      fits = start-fits accounts start.fits;
       legal = tt;
     })
 

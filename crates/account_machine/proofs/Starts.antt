@@ -1,5 +1,7 @@
 -- The accounts of a start, without entries.
-use Rattle.std.proofs.Common.{◌≡◌, refl, ap, sym, ◌∙◌, ℕ, ◌+◌, ◌<◌, max, List, [], ◌∷◌, ◌++◌, length, map, subst, arith, false, take, get_or, None, All, length-take-le}
+use Rattle.std.proofs.Common.{◌≡◌, refl, ap, sym, ◌∙◌, ℕ, ◌+◌, ◌<◌, max, List, [], ◌∷◌, ◌++◌, length, map, subst, arith, Bool, true, false, not, ◌&&◌, ◌==◌, nat_le, codes, if◌then◌else◌, take, get_or, None, All, length-take-le}
+use Rattle.std.specs.List.{list_any}
+use Rattle.std.specs.Str.{bytes_eq}
 use Rattle.std.proofs.lemmas.List.{map-append, take_more}
 use Rattle.account_rules.specs.declared.accounts.Account.{Account}
 use Rattle.account_rules.specs.declared.accounts.Settings.{Settings}
@@ -7,19 +9,26 @@ use Rattle.account_history.specs.declared.entries.Opening.{Opening}
 use Rattle.account_history.specs.declared.entries.Log.{Log}
 use Rattle.account_history.specs.declared.entries.Start.{Start}
 use Rattle.account_history.specs.Histories.{From, history, latest_moment}
+use Rattle.factor_chain.specs.declared.credentials.Method.{Method}
 use Rattle.factor_chain.specs.declared.credentials.Method.TheVariants as method
-use Rattle.account_machine.specs.Openings.{native_accounts, native_stored, opening_accounts, opening_start, plain_account, root_account}
+use Rattle.factor_chain.specs.declared.credentials.Stored.{Stored}
+use Rattle.factor_chain.specs.declared.credentials.Stored.TheVariants as stored
+use Rattle.native_scramble.specs.Native.{native_stage2}
+use Rattle.account_keeper.specs.Record.{FitsRecord, LabelFits, PasswordFits, PastFits, UserFits}
+use Rattle.account_history.specs.Refusals.{has_zero}
+use Rattle.account_machine.specs.Openings.{are_openings, is_opening, is_opening_password, is_opening_user, native_accounts, native_stored, opening_accounts, opening_start, plain_account, root_account}
 use Rattle.account_machine.specs.Rows.{Rise, new_rows, row_of}
 use Rattle.account_machine.specs.Counting.{stamp_in}
 use Rattle.account_machine.specs.declared.executing.Numbers.{Numbers}
 use Rattle.account_machine.specs.declared.stamps.Stamps.{Stamps}
 use Rattle.account_machine.specs.Stands.{Stands}
 use Rattle.account_machine.specs.declared.rows.Row.{Row}
-use Rattle.std.proofs.lemmas.List.Elements.{All-cons}
+use Rattle.std.proofs.lemmas.List.Elements.{All-cons, All-from_recursion, All-nil, recursion_from_All}
 use Rattle.account_history.specs.Given.{greatest_given}
 use Rattle.account_history.proofs.Numbered.{numbers-rise}
-use Rattle.account_machine.specs.Pasts.{HasSetPast}
-use Rattle.account_machine.proofs.Labelled.{opening-few}
+use Rattle.account_machine.specs.Fitting.{FitsAt}
+use Rattle.account_machine.proofs.Fitted.{and-both, at-most, no-zero, not-false, stage2-digest}
+use Rattle.account_machine.proofs.Holding.{begun-holds}
 
 -- the native accounts with one more
 pub native-more : (id : ℕ) (xs : List Opening) (x : Opening)
@@ -47,21 +56,65 @@ native-given low (x ∷ xs) =
     let more = native-given (low + 1) xs in let a = more.0 in let c = more.1 in
     (omega (arith, a), omega (arith, c))
 
-native-set : (id : ℕ) (xs : List Opening) → All HasSetPast (native_accounts id xs)
-native-set id [] = λ k d h. absurd (omega arith)
-native-set id (x ∷ xs) = All-cons HasSetPast _ (native_accounts (id + 1) xs) (λ k d h. absurd (omega arith)) (native-set (id + 1) xs)
+plain-fits : (id : ℕ) (user : List ℕ) (m : Method) (kept : Stored) (privileged : Bool) → UserFits user → PasswordFits m kept
+    → FitsRecord (plain_account id user m kept privileged)
+plain-fits id user m kept privileged u p = record {
+  user = u;
+  primary = p;
+  secondary = tt;
+  labels = (omega arith, All-nil LabelFits);
+  changed = omega arith;
+  lifetime = tt;
+  history = tt;
+  reuse = tt;
+  attempts = omega arith;
+  lock_time = omega arith;
+  past = (omega arith, All-nil PastFits, tt);
+}
 
-opening-set : (extra : List Opening) → All HasSetPast (opening_accounts extra)
-opening-set extra = All-cons HasSetPast root_account (native_accounts 2 extra) (λ k d h. absurd (omega arith)) (native-set 2 extra)
+pub root-fits : FitsRecord root_account
+root-fits = plain-fits 1 (codes "root") method.CachingSha2 stored.Empty true (omega arith, omega arith, no-zero (codes "root") refl) (tt, tt)
+
+native-password : (password : List ℕ) → PasswordFits method.Native (native_stored password)
+native-password password = cases (length password == 0) where
+  cases : (b : Bool) → PasswordFits method.Native (if b then stored.Empty else stored.Native (native_stage2 password))
+  cases true = (tt, tt)
+  cases false = (tt, stage2-digest password)
+
+opening-user : (user : List ℕ) → is_opening_user user ≡ true → UserFits user
+opening-user user e =
+    let first = and-both (nat_le 1 (length user) && nat_le (length user) 32 && not (has_zero user)) (not (bytes_eq user (codes "root"))) e in
+    let second = and-both (nat_le 1 (length user) && nat_le (length user) 32) (not (has_zero user)) first.0 in
+    let third = and-both (nat_le 1 (length user)) (nat_le (length user) 32) second.0 in
+    (at-most 1 (length user) third.0, at-most (length user) 32 third.1, no-zero user (not-false (has_zero user) second.1))
+
+native-fits : (id : ℕ) (xs : List Opening) → are_openings xs ≡ true → All FitsRecord (native_accounts id xs)
+native-fits id [] e = All-nil FitsRecord
+native-fits id (x ∷ xs) e =
+    let first = and-both (is_opening x && not (list_any (λ (other : Opening). bytes_eq x.user other.user) xs)) (are_openings xs) e in
+    let second = and-both (is_opening x) (not (list_any (λ (other : Opening). bytes_eq x.user other.user) xs)) first.0 in
+    let third = and-both (is_opening_user x.user) (is_opening_password x.password) second.0 in
+    All-cons FitsRecord (plain_account id x.user method.Native (native_stored x.password) false) (native_accounts (id + 1) xs)
+    (plain-fits id x.user method.Native (native_stored x.password) false (opening-user x.user third.0) (native-password x.password))
+    (native-fits (id + 1) xs first.1)
+
+opening-fits : (extra : List Opening) → are_openings extra ≡ true → All FitsRecord (opening_accounts extra)
+opening-fits extra e = All-cons FitsRecord root_account (native_accounts 2 extra) root-fits (native-fits 2 extra e)
+
+-- each account of a start fits at the newest of their moments
+pub start-fits : (accounts : List Account) → All FitsRecord accounts → All (FitsAt (latest_moment accounts)) accounts
+start-fits accounts fits =
+    All-from_recursion (FitsAt (latest_moment accounts)) accounts
+    (begun-holds (latest_moment accounts) accounts (omega arith) (recursion_from_All FitsRecord accounts fits))
 
 pub rows-new : (log : Log) (accounts : List Account) → new_rows accounts ≡ map (row_of (From log.start)) accounts
 rows-new log [] = refl
 rows-new log (account ∷ accounts) = ap (λ (rows : List Row). row_of (From log.start) account ∷ rows) (rows-new log accounts)
 
-pub stands-opening : (extra : List Opening) (settings : Settings) (rows : List Row) (numbers : Numbers) (stamps : Stamps) (log : Log) → rows ≡ new_rows (opening_accounts extra)
+pub stands-opening : (extra : List Opening) (settings : Settings) (rows : List Row) (numbers : Numbers) (stamps : Stamps) (log : Log) → are_openings extra ≡ true → rows ≡ new_rows (opening_accounts extra)
     → ((user : List ℕ) → stamp_in stamps user ≡ 0)
     → numbers.account ≡ length extra + 1 → numbers.credential ≡ length extra + 1 → log ≡ record { start = opening_start extra settings; entries = [] } → Stands rows settings 0 numbers stamps 0 (history log)
-stands-opening extra settings rows numbers stamps log r z m n e =
+stands-opening extra settings rows numbers stamps log o r z m n e =
     let P : Log → Type 0 = λ l. Stands rows settings 0 numbers stamps 0 (history l) in
     let first : Log = record { start = opening_start extra settings; entries = [] } in
     subst P (sym e) (record {
@@ -76,8 +129,7 @@ stands-opening extra settings rows numbers stamps log r z m n e =
           λ i. record { account = account i; credential = credential i };
       rising = (omega arith, native-rise 1 2 extra (omega arith));
       up_to = numbers-rise (From (opening_start extra settings)) (omega arith, native-rise 1 2 extra (omega arith));
-      few_labels = opening-few extra;
-      set_past = opening-set extra;
+      fits = start-fits (opening_accounts extra) (opening-fits extra o);
       legal = tt;
     })
 
@@ -115,8 +167,7 @@ stands-counted rows settings now numbers stamps changes log log' count e s f =
       same_numbers = t.same_numbers;
       rising = t.rising;
       up_to = t.up_to;
-      few_labels = t.few_labels;
-      set_past = t.set_past;
+      fits = t.fits;
       legal = tt;
     }) where
       rows-counted : (start : Start) (count : ℕ) (accounts : List Account)

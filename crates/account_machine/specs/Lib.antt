@@ -3,6 +3,7 @@ pub mod Clearing
 pub mod Committing
 pub mod Counting
 pub mod Executing
+pub mod Fitting
 pub mod Keeping
 pub mod Labels
 pub mod Loading

@@ -108,3 +108,13 @@ IsRowFault before row Memory = Unit {0}
 abbrev pub Loads : {A : Type 0} → (A → Type 0) → Result A MachineFault → Type 0
 Loads Is (Ok made) = Is made
 Loads Is (Err fault) = fault ≡ Memory
+
+-- where this is the key of the first bad row, the fault names it, unless memory was wanting
+abbrev pub Names : (key : ℕ) → MachineFault → Type 0
+Names key (BadRow named) = named ≡ key
+Names key Memory = Unit {0}
+
+-- so nothing is loaded
+abbrev pub Refuses : {A : Type 0} → (key : ℕ) → Result A MachineFault → Type 0
+Refuses key (Ok made) = ⊥
+Refuses key (Err fault) = Names key fault

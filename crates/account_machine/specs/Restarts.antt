@@ -1,7 +1,6 @@
 -- What a keeper tells after a run, and what is loaded of it when the server starts again.
-use Rattle.std.specs.Prelude.{◌≡◌, ℕ, ◌<◌, ◌≤◌, ◌^◌, max, List, map, length, if◌then◌else◌}
+use Rattle.std.specs.Prelude.{◌≡◌, ℕ, ◌<◌, ◌≤◌, ◌^◌, max, List, map, if◌then◌else◌}
 use Rattle.std.specs.List.{All}
-use Rattle.caching_sha2.specs.Stored.{IsSaltByte}
 use Rattle.lg_outside.specs.Keeping.{Ascend}
 use Rattle.lg_outside.specs.declared.keepers.Row.{Row as Kept}
 use Rattle.account_rules.specs.declared.accounts.Account.{Account}
@@ -13,6 +12,7 @@ use Rattle.account_history.specs.Given.{given, is_done}
 use Rattle.account_history.specs.Histories.{History, From, ◌▹◌, moment, start_of}
 use Rattle.account_history.specs.Legal.{IsLegal}
 use Rattle.account_history.specs.Numbers.{Rise}
+use Rattle.account_history.specs.Preparing.{IsSalt}
 use Rattle.account_history.specs.Records.{records}
 use Rattle.account_history.specs.Sound.{AreSound, AreWritten}
 use Rattle.account_machine.specs.Executing.{kept_after}
@@ -43,10 +43,6 @@ abbrev pub RowsAreRecords : Type 0
 RowsAreRecords = (h : History) → Rise 0 (start_of h).accounts → rows_after h ≡ rows_kept (records h)
 
 -- ## Records that fit
-
--- 20 bytes of the alphabet of salts
-abbrev pub IsSalt : List ℕ → Type 0
-IsSalt salt = (length salt ≡ 20) × All IsSaltByte salt
 
 -- a reading of the clock is below 2 ^ 64, and a salt is one
 abbrev pub HasRanges : Entry → Type 0

@@ -1,6 +1,6 @@
 -- What the machine keeps stands for a history: its rows are the accounts after it with their tallies, its moment is the
--- newest one, and its stamps and the numbers that were given are the history's. Each of the accounts has at most two
--- further factors, and no empty password among its past ones.
+-- newest one, and its stamps and the numbers that were given are the history's. Each of the accounts has a record, and none
+-- of its past passwords was recorded later than the newest moment.
 use Rattle.std.specs.Prelude.{◌≡◌, ℕ, List}
 use Rattle.std.specs.List.{All}
 use Rattle.account_rules.specs.declared.accounts.Settings.{Settings}
@@ -11,8 +11,7 @@ use Rattle.account_history.specs.Numbers.{RiseTo}
 use Rattle.account_history.specs.Records.{records}
 use Rattle.account_machine.specs.Counting.{AreStamps}
 use Rattle.account_machine.specs.Executing.{given_of}
-use Rattle.account_machine.specs.Labels.{HasFewLabels}
-use Rattle.account_machine.specs.Pasts.{HasSetPast}
+use Rattle.account_machine.specs.Fitting.{FitsAt}
 use Rattle.account_machine.specs.declared.executing.Numbers.{Numbers}
 use Rattle.account_machine.specs.declared.stamps.Stamps.{Stamps}
 use Rattle.account_machine.specs.declared.rows.Row.{Row}
@@ -26,6 +25,5 @@ pub record Stands (rows : List Row) (settings : Settings) (now : ℕ) (numbers :
   pub same_stamps : AreStamps stamps changes h
   pub rising : Rise 0 (records h)
   pub up_to : RiseTo 0 (given h).account (records h)
-  pub few_labels : All HasFewLabels (records h)
-  pub set_past : All HasSetPast (records h)
+  pub fits : All (FitsAt (moment h)) (records h)
   pub legal : IsLegal h

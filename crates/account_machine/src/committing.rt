@@ -69,7 +69,7 @@ pub fn perform<K: Keeper>(
     requires password { length (new_password statement.now) ≤ 256 }
     requires options { options_fit (options_of statement.now) ≡ true }
     requires room { (user : List ℕ) → stamp_in stamps.old user + 1 < 2 ^ 64 }
-    ensures fits { IfOk result (λ _. NextFits statement.now (given_of numbers.now) actor salt.now now (accounts_of rows.old.items)) }
+    requires fits { NextFits statement.now (given_of numbers.now) actor salt.now now (accounts_of rows.old.items) }
     ensures done { IfOk result (λ done. rows.new.items ≡ (if done then rows_after statement.now (given_of numbers.now) actor salt.now now rows.old.items else rows.old.items)) }
     ensures stamps { IfOk result (λ done. (user : List ℕ) → stamp_in stamps.new user
         ≡ (if done && raises statement.now (cleared_user statement.now (target_of (accounts_of rows.old.items) statement.now actor)) user

@@ -154,7 +154,7 @@ fn create<K: Keeper>(
     account: Account,
     keeper: &mut K,
 ) -> Result<bool, Memory>
-    ensures fits { IfOk result (λ _. FitsRecord account) }
+    requires { FitsRecord account }
     ensures done { IfOk result (λ done. rows.new.items ≡ (if done then rows.old.items ++ record { account = account; tally = no_failures } ∷ [] else rows.old.items)) }
     ensures err { OnErr result (rows.new.items ≡ rows.old.items) }
     ensures kept { Keeps (put_account account) (K.told_rows keeper.old) (K.told_rows keeper.new) result }
@@ -203,8 +203,8 @@ fn change_target<K: Keeper>(
     requires credential { numbers.now.credential + 1 < 2 ^ 64 }
     requires password { length (new_password statement.now) ≤ 256 }
     requires options { options_fit (options_of statement.now) ≡ true }
-    ensures fits { IfOk result (λ _. IfSome (target_of (accounts_of rows.old.items) statement.now actor)
-        (λ a. FitsRecord (next_of statement.now (given_of numbers.now) salt.now now a))) }
+    requires fits { IfSome (target_of (accounts_of rows.old.items) statement.now actor)
+        (λ a. FitsRecord (next_of statement.now (given_of numbers.now) salt.now now a)) }
     ensures done { IfOk result (λ done. rows.new.items ≡ (if done then rows_changed statement.now (given_of numbers.now) actor salt.now now rows.old.items else rows.old.items)) }
     ensures err { OnErr result (rows.new.items ≡ rows.old.items) }
     ensures kept { Keeps (put_target (next_of statement.now (given_of numbers.now) salt.now now) (target_of (accounts_of rows.old.items) statement.now actor)) (K.told_rows keeper.old) (K.told_rows keeper.new) result }
@@ -236,7 +236,7 @@ pub fn execute<K: Keeper>(
     requires credential { numbers.now.credential + 1 < 2 ^ 64 }
     requires password { length (new_password statement.now) ≤ 256 }
     requires options { options_fit (options_of statement.now) ≡ true }
-    ensures fits { IfOk result (λ _. NextFits statement.now (given_of numbers.now) actor salt.now now (accounts_of rows.old.items)) }
+    requires fits { NextFits statement.now (given_of numbers.now) actor salt.now now (accounts_of rows.old.items) }
     ensures done { IfOk result (λ done. rows.new.items ≡ (if done then rows_after statement.now (given_of numbers.now) actor salt.now now rows.old.items else rows.old.items)) }
     ensures err { OnErr result (rows.new.items ≡ rows.old.items) }
     ensures kept { Keeps (kept_after statement.now (given_of numbers.now) actor salt.now now (accounts_of rows.old.items)) (K.told_rows keeper.old) (K.told_rows keeper.new) result }

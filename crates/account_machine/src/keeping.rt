@@ -7,23 +7,19 @@ ghost use Rattle.lg_outside.specs.Keeping.{put_row, remove_row};
 ghost use Rattle.std.specs.Prelude.{◌≡◌, ◌≤◌, ◌<◌, ◌++◌, ◌∷◌, [], length, remove, false, IfOk, OnErr, if◌then◌else◌, slice_set};
 
 use crate::rows::Row;
-use account_keeper::{fits_record, write_record};
+use account_keeper::write_record;
 use account_rules::Account;
 use lg_base::{Memory, Out};
 use lg_outside::{KeepFault, Keeper};
 use std::alloc::Global;
 
-/// Puts the record of an account. False where the keeper failed. An account that has no record is answered as if no
-/// memory was to be had.
+/// Puts the record of an account. False where the keeper failed.
 fn put_account<K: Keeper>(alloc: Global, account: &Account, keeper: &mut K) -> Result<bool, Memory>
-    ensures fits { IfOk result (λ _. FitsRecord account.now) }
+    requires { FitsRecord account.now }
     ensures rows { Keeps (put_row account.now.id (record_text account.now)) (K.told_rows keeper.old) (K.told_rows keeper.new) result }
     ensures cause { IfOk result (λ done. done ≡ false → Rose (K.fault_count keeper.old) (K.fault_count keeper.new)) }
     ensures rising { K.fault_count keeper.old ≤ K.fault_count keeper.new }
 {
-    if !fits_record(account) {
-        return Err(Memory);
-    }
     let mut text = Out::new(alloc);
     write_record(account, &mut text)?;
     match keeper.put(account.id, text.as_slice()) {
@@ -54,8 +50,8 @@ pub fn replace<K: Keeper>(
     row: Row,
     keeper: &mut K,
 ) -> Result<bool, Memory>
-    requires { place < length rows.old.items }
-    ensures fits { IfOk result (λ _. FitsRecord row.account) }
+    requires place { place < length rows.old.items }
+    requires fits { FitsRecord row.account }
     ensures done { IfOk result (λ done. rows.new.items ≡ (if done then slice_set rows.old.items place row else rows.old.items)) }
     ensures err { OnErr result (rows.new.items ≡ rows.old.items) }
     ensures rows { Keeps (put_row row.account.id (record_text row.account)) (K.told_rows keeper.old) (K.told_rows keeper.new) result }
@@ -76,7 +72,7 @@ pub fn add<K: Keeper>(
     row: Row,
     keeper: &mut K,
 ) -> Result<bool, Memory>
-    ensures fits { IfOk result (λ _. FitsRecord row.account) }
+    requires { FitsRecord row.account }
     ensures done { IfOk result (λ done. rows.new.items ≡ (if done then rows.old.items ++ row ∷ [] else rows.old.items)) }
     ensures err { OnErr result (rows.new.items ≡ rows.old.items) }
     ensures rows { Keeps (put_row row.account.id (record_text row.account)) (K.told_rows keeper.old) (K.told_rows keeper.new) result }

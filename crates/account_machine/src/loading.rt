@@ -3,11 +3,11 @@
 ghost use Rattle.account_history.specs.Given.{greatest_given};
 ghost use Rattle.account_history.specs.Histories.{latest_moment as latest_moment_of, latest_past as latest_past_of};
 ghost use Rattle.account_history.specs.Naming.{is_named};
-ghost use Rattle.account_machine.specs.Loading.{AreLoadable, IsFault, IsRowFault, IsRowOf, Keeps, Loads, last_number, loaded_accounts, numbered_account, numbered_rows, numbered_secondary as numbered_secondary_of, passwords_of as passwords_of_secondary, numbered as numbered_accounts};
+ghost use Rattle.account_machine.specs.Loading.{AreLoadable, IsFault, IsFirstBad, IsRowFault, IsRowOf, Keeps, Loads, Refuses, last_number, loaded_accounts, numbered_account, numbered_rows, numbered_secondary as numbered_secondary_of, passwords_of as passwords_of_secondary, numbered as numbered_accounts};
 ghost use Rattle.account_machine.specs.Looks.{accounts_of};
 ghost use Rattle.account_machine.specs.Rows.{new_rows};
 ghost use Rattle.account_rules.specs.declared.accounts.Account.{Account};
-ghost use Rattle.std.specs.Prelude.{◌≡◌, ◌+◌, ◌<◌, ◌^◌, [], find, IfOk, IfErr, None, List};
+ghost use Rattle.std.specs.Prelude.{◌≡◌, ◌+◌, ◌<◌, ◌^◌, [], find, IfOk, IfErr, None, List, ℕ};
 
 use crate::executing::Numbers;
 use crate::looks::find_named;
@@ -52,6 +52,7 @@ pub struct Loaded {
 /// Reads the record of a row that stands behind those of these accounts.
 fn read_row(alloc: Global, rows: &[Row], kept: &lg_outside::Row) -> Result<Account, MachineFault>
     ensures record_of { IfOk result (IsRowOf kept.now) }
+    ensures only { IfOk result (λ made. (a : Account) → IsRowOf kept.now a → made ≡ a) }
     ensures new { IfOk result (λ a. find (is_named a.name) (accounts_of rows.now) ≡ None) }
     ensures bad { IfErr result (IsRowFault (accounts_of rows.now) kept.now) }
     ensures found { (a : Account) → IsRowOf kept.now a → find (is_named a.name) (accounts_of rows.now) ≡ None → Loads (λ made. made ≡ a) result }
@@ -73,6 +74,7 @@ fn read_rows(alloc: Global, kept: &[lg_outside::Row]) -> Result<Vec<Row>, Machin
     ensures rows { IfOk result (λ rows. rows.items ≡ new_rows (accounts_of rows.items)) }
     ensures bad { IfErr result (IsFault kept.now) }
     ensures found { (accounts : List Account) → AreLoadable kept.now accounts → Loads (λ rows. accounts_of rows.items ≡ accounts) result }
+    ensures first { (key : ℕ) → IsFirstBad kept.now key → Refuses key result }
 {
     let mut rows = Items::new(alloc);
     for row in kept {
@@ -198,6 +200,7 @@ pub fn load_rows(alloc: Global, kept: &[lg_outside::Row]) -> Result<Loaded, Mach
     ensures loaded { IfOk result (λ made. (accounts : List Account) × AreLoadable kept.now accounts × Keeps made (loaded_accounts accounts)) }
     ensures bad { IfErr result (IsFault kept.now) }
     ensures found { (accounts : List Account) → AreLoadable kept.now accounts → Loads (λ made. Keeps made (loaded_accounts accounts)) result }
+    ensures first { (key : ℕ) → IsFirstBad kept.now key → Refuses key result }
 {
     let rows = read_rows(alloc, kept)?;
     if rows.is_empty() {

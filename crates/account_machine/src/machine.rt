@@ -49,6 +49,7 @@ impl Accounts {
     ghost use Rattle.account_history.specs.Answers.{attempt_reply, look_of, statement_refusal, statement_reply};
     ghost use Rattle.account_history.specs.Histories.{history, moment, noted};
     ghost use Rattle.account_history.specs.Legal.{IsExecuted, IsLegal, changes_accounts, last_count};
+    ghost use Rattle.account_history.specs.Sound.{IsWritten};
     ghost use Rattle.account_history.specs.Stamps.{stamp};
     ghost use Rattle.account_history.specs.declared.entries.Entry.TheVariants.{Attempted, Executed, Observed};
     ghost use Rattle.account_history.specs.declared.entries.StmtReply.TheVariants.{Refused};
@@ -56,13 +57,15 @@ impl Accounts {
     ghost use Rattle.account_machine.specs.Agreeing.{Agrees};
     ghost use Rattle.account_machine.specs.Committing.{execution_of, has_failed, told_after};
     ghost use Rattle.account_machine.specs.Labels.{ShowsFewLabels};
-    ghost use Rattle.account_machine.specs.Loading.{AreLoadable, IsFault, IsLoaded, Loads, loaded};
+    ghost use Rattle.account_machine.specs.Loading.{AreLoadable, IsFault, IsFirstBad, IsLoaded, Loads, Refuses, loaded};
     ghost use Rattle.account_machine.specs.Openings.{are_openings, opening_start};
     ghost use Rattle.account_history.specs.Preparing.{who_of};
     ghost use Rattle.account_rules.specs.declared.accounts.Account.{Account};
     ghost use Rattle.lg_outside.specs.Faults.{Rose};
     ghost use Rattle.lg_outside.specs.Keeping.{Ascend};
-    ghost use Rattle.std.specs.Prelude.{◌≡◌, ◌≤◌, max, [], None, IfErr, IfOk, IfSome, IsTrue, List, OnErr};
+    ghost use Rattle.sha256_crypt.specs.Alphabet.{IsSaltByte};
+    ghost use Rattle.std.specs.List.{All};
+    ghost use Rattle.std.specs.Prelude.{◌≡◌, ◌≤◌, max, [], None, IfErr, IfOk, IfSome, IsTrue, List, OnErr, ℕ};
 
     /// The accounts of a start: `'root'@'localhost'` with number 1, without a password and with both
     /// privileges, and a native account at `localhost` for each of `extra`, with the next numbers. Each
@@ -99,6 +102,7 @@ impl Accounts {
         ensures loaded { IfOk result (IsLoaded rows.now settings) }
         ensures bad { IfErr result (IsFault rows.now) }
         ensures found { (accounts : List Account) → AreLoadable rows.now accounts → Loads (λ made. made ≡ loaded accounts settings) result }
+        ensures first { (key : ℕ) → IsFirstBad rows.now key → Refuses key result }
     {
         let made = load_rows(alloc, rows)?;
         let log = GhostValue::of(&LoadNote {
@@ -217,8 +221,8 @@ impl Accounts {
     /// Executes an account statement that the account with the number `actor` asks for. `salt` is what a new password of
     /// the caching method takes. The statement is refused, or done, or the keeper fails; where there is a refusal, the
     /// keeper isn't called. After `Memory` nothing has changed, neither here nor at the keeper. `Memory` is also answered
-    /// where a number, or the count of changes, is at the end of its type, and where the account that the statement
-    /// makes has no record.
+    /// where a number, or the count of changes, is at the end of its type. The statement is one that the grammar gives, and
+    /// the salt is of the alphabet of salts.
     pub fn commit_here<K: Keeper>(
         &mut self,
         alloc: Global,
@@ -228,7 +232,9 @@ impl Accounts {
         reading: u64,
         keeper: &mut K,
     ) -> Result<StmtReply, Memory>
-        requires { last_count (history self.old) ≤ K.fault_count keeper.old }
+        requires written { IsWritten statement.now }
+        requires letters { All IsSaltByte salt.now }
+        requires count { last_count (history self.old) ≤ K.fault_count keeper.old }
         ensures entry { IfOk result (λ reply. self.new ≡ noted self.old (Executed
             (execution_of (history self.old) statement.now salt.now actor reading (K.fault_count keeper.new) reply))) }
         ensures reply { IfOk result (λ reply. reply ≡ statement_reply (history self.old) statement.now actor reading
@@ -359,6 +365,8 @@ impl Accounts {
         keeper: &mut K,
     ) -> Result<StmtReply, Memory>
         requires refusal { statement_refusal (history self.old) statement.now actor reading ≡ None }
+        requires written { IsWritten statement.now }
+        requires letters { All IsSaltByte salt.now }
         requires count { last_count (history self.old) ≤ K.fault_count keeper.old }
         ensures entry { IfOk result (λ reply. self.new ≡ noted self.old (Executed
             (execution_of (history self.old) statement.now salt.now actor reading (K.fault_count keeper.new) reply))) }

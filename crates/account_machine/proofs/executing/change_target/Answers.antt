@@ -1,4 +1,4 @@
-use Rattle.std.proofs.Common.{◌≡◌, ◌∙◌, ap, sym, subst, List, Bool, Option, Some, IfSome, IfOk, slice_set}
+use Rattle.std.proofs.Common.{◌≡◌, ◌∙◌, ap, sym, subst, List, Bool, Option, Some, IfSome, slice_set}
 use Rattle.account_rules.specs.declared.accounts.Account.{Account}
 use Rattle.account_keeper.specs.Record.{FitsRecord}
 use Rattle.account_history.specs.Targets.{is_named_by, target_of}
@@ -11,8 +11,8 @@ use Rattle.account_machine.proofs.Replaced.{changed-there, done-as, found-there}
 use Rattle.account_machine.proofs.Unrefused.{no-place}
 use Rattle.account_machine.proofs.executing.change_target.Goals as goal
 
-pub returns-clause-fits : goal.returns-clause-fits
-returns-clause-fits g c =
+pub replace-requires-clause-fits : goal.replace-requires-clause-fits
+replace-requires-clause-fits g c =
     let p : place_of_target c.args.rows.now.items c.args.statement.now c.args.actor ≡ Some c.in-Some.place =
     ap (λ (rows : List Row). place_of_target rows c.args.statement.now c.args.actor) (sym c.as_slice.ensures.value) ∙ sym c.in-Some.ensures in
     let found : target_of (accounts_of c.args.rows.now.items) c.args.statement.now c.args.actor ≡ Some c.index.result.now.account =
@@ -20,8 +20,8 @@ returns-clause-fits g c =
     let next : Account → Account = next_of c.args.statement.now (given_of c.args.numbers.now) c.args.salt.now c.args.now in
     let new : c.in_ok-row-in-Some.row ≡ row_with (clears_of c.args.statement.now) (next_of c.args.statement.now (given_of c.args.numbers.now) c.args.salt.now c.args.now) c.index.result.now =
     c.in_ok-row-in-Some.ensures in
-    subst (λ (t : Option Account). IfOk c.replace.result (λ (_ : Bool). IfSome t (λ a. FitsRecord (next a)))) (sym found)
-    (subst (λ (a : Account). IfOk c.replace.result (λ (_ : Bool). FitsRecord a)) (ap (λ (row : Row). row.account) new) c.replace.ensures.fits)
+    subst FitsRecord (sym (ap (λ (row : Row). row.account) new))
+    (subst (λ (t : Option Account). IfSome t (λ a. FitsRecord (next a))) found c.requires.fits)
 
 pub returns-clause-done : goal.returns-clause-done
 returns-clause-done g c =

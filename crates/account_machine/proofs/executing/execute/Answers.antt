@@ -10,12 +10,12 @@ use Rattle.account_machine.specs.declared.rows.Row.{Row}
 use Rattle.account_machine.proofs.Unrefused.{is_about_one, one-found}
 use Rattle.account_machine.proofs.executing.execute.Goals as goal
 
-pub returns-in-Alter-clause-fits : goal.returns-in-Alter-clause-fits
-returns-in-Alter-clause-fits g c =
+pub change_target-requires-clause-fits : goal.change_target-requires-clause-fits
+change_target-requires-clause-fits g c =
     let P : Statement → Type 0 = λ st.
-    IfOk c.change_target.result (λ (_ : Bool). IfSome (target_of (accounts_of c.args.rows.now.items) st c.args.actor) (λ a. FitsRecord (next_of st (given_of c.args.numbers.now) c.args.salt.now c.args.now a)))
-    → IfOk c.change_target.result (λ (_ : Bool). NextFits st (given_of c.args.numbers.now) c.args.actor c.args.salt.now c.args.now (accounts_of c.args.rows.now.items)) in
-    subst P (sym c.in-Alter.is) (λ h. h) c.change_target.ensures.fits
+    NextFits st (given_of c.args.numbers.now) c.args.actor c.args.salt.now c.args.now (accounts_of c.args.rows.now.items)
+    → IfSome (target_of (accounts_of c.args.rows.now.items) st c.args.actor) (λ a. FitsRecord (next_of st (given_of c.args.numbers.now) c.args.salt.now c.args.now a)) in
+    subst P (sym c.in-Alter.is) (λ h. h) c.requires.fits
 
 pub returns-in-Alter-clause-kept : goal.returns-in-Alter-clause-kept
 returns-in-Alter-clause-kept g c =
@@ -24,12 +24,12 @@ returns-in-Alter-clause-kept g c =
     → Keeps (kept_after st (given_of c.args.numbers.now) c.args.actor c.args.salt.now c.args.now (accounts_of c.args.rows.now.items)) (g.K.Keeper.told_rows c.args.keeper.now) (g.K.Keeper.told_rows c.change_target.new.keeper) c.change_target.result in
     subst P (sym c.in-Alter.is) (λ h. h) c.change_target.ensures.kept
 
-pub returns-in-Grant-clause-fits : goal.returns-in-Grant-clause-fits
-returns-in-Grant-clause-fits g c =
+pub change_target-requires-in-Grant-clause-fits : goal.change_target-requires-in-Grant-clause-fits
+change_target-requires-in-Grant-clause-fits g c =
     let P : Statement → Type 0 = λ st.
-    IfOk c.change_target-in-Grant.result (λ (_ : Bool). IfSome (target_of (accounts_of c.args.rows.now.items) st c.args.actor) (λ a. FitsRecord (next_of st (given_of c.args.numbers.now) c.args.salt.now c.args.now a)))
-    → IfOk c.change_target-in-Grant.result (λ (_ : Bool). NextFits st (given_of c.args.numbers.now) c.args.actor c.args.salt.now c.args.now (accounts_of c.args.rows.now.items)) in
-    subst P (sym c.in-Grant.is) (λ h. h) c.change_target-in-Grant.ensures.fits
+    NextFits st (given_of c.args.numbers.now) c.args.actor c.args.salt.now c.args.now (accounts_of c.args.rows.now.items)
+    → IfSome (target_of (accounts_of c.args.rows.now.items) st c.args.actor) (λ a. FitsRecord (next_of st (given_of c.args.numbers.now) c.args.salt.now c.args.now a)) in
+    subst P (sym c.in-Grant.is) (λ h. h) c.requires.fits
 
 pub returns-in-Grant-clause-kept : goal.returns-in-Grant-clause-kept
 returns-in-Grant-clause-kept g c =
@@ -38,12 +38,12 @@ returns-in-Grant-clause-kept g c =
     → Keeps (kept_after st (given_of c.args.numbers.now) c.args.actor c.args.salt.now c.args.now (accounts_of c.args.rows.now.items)) (g.K.Keeper.told_rows c.args.keeper.now) (g.K.Keeper.told_rows c.change_target-in-Grant.new.keeper) c.change_target-in-Grant.result in
     subst P (sym c.in-Grant.is) (λ h. h) c.change_target-in-Grant.ensures.kept
 
-pub returns-in-Revoke-clause-fits : goal.returns-in-Revoke-clause-fits
-returns-in-Revoke-clause-fits g c =
+pub change_target-requires-in-Revoke-clause-fits : goal.change_target-requires-in-Revoke-clause-fits
+change_target-requires-in-Revoke-clause-fits g c =
     let P : Statement → Type 0 = λ st.
-    IfOk c.change_target-in-Revoke.result (λ (_ : Bool). IfSome (target_of (accounts_of c.args.rows.now.items) st c.args.actor) (λ a. FitsRecord (next_of st (given_of c.args.numbers.now) c.args.salt.now c.args.now a)))
-    → IfOk c.change_target-in-Revoke.result (λ (_ : Bool). NextFits st (given_of c.args.numbers.now) c.args.actor c.args.salt.now c.args.now (accounts_of c.args.rows.now.items)) in
-    subst P (sym c.in-Revoke.is) (λ h. h) c.change_target-in-Revoke.ensures.fits
+    NextFits st (given_of c.args.numbers.now) c.args.actor c.args.salt.now c.args.now (accounts_of c.args.rows.now.items)
+    → IfSome (target_of (accounts_of c.args.rows.now.items) st c.args.actor) (λ a. FitsRecord (next_of st (given_of c.args.numbers.now) c.args.salt.now c.args.now a)) in
+    subst P (sym c.in-Revoke.is) (λ h. h) c.requires.fits
 
 pub returns-in-Revoke-clause-kept : goal.returns-in-Revoke-clause-kept
 returns-in-Revoke-clause-kept g c =

@@ -1,4 +1,4 @@
-use Rattle.std.proofs.Common.{◌≡◌, ◌≤◌, ◌+◌, ◌&&◌, ◌∙◌, ap, sym, subst, max, ℕ, List, Bool, None, Ok, option_map, if◌then◌else◌, arith}
+use Rattle.std.proofs.Common.{◌≡◌, ◌≤◌, ◌+◌, ◌&&◌, ◌∙◌, ap, sym, subst, max, ℕ, List, Bool, None, Ok, option_map, if◌then◌else◌, arith, ◌<◌, ◌^◌}
 use Rattle.account_rules.specs.declared.accounts.Account.{Account}
 use Rattle.account_history.specs.declared.entries.Log.{Log}
 use Rattle.account_history.specs.Answers.{statement_refusal}
@@ -13,7 +13,7 @@ use Rattle.account_machine.specs.Counting.{stamp_in}
 use Rattle.account_machine.specs.Executing.{given_of, kept_after, rows_after}
 use Rattle.account_machine.specs.Keeping.{Keeps}
 use Rattle.account_machine.specs.Looks.{accounts_of}
-use Rattle.account_machine.proofs.Committed.{accounts-kept, kept-history, stands-done}
+use Rattle.account_machine.proofs.Committed.{accounts-kept, kept-history, next-fits-here, stands-done}
 use Rattle.account_machine.proofs.Unrefused.{fitting-options, short-password, well-placed}
 use Rattle.account_machine.proofs.machine.Accounts.carry_out.Goals as goal
 
@@ -53,7 +53,7 @@ invariant_of-self-2 g c =
     (c.in_ok-done.ensures.done
     ∙ ap (λ (b : Bool). if b then rows_after c.args.statement.now (given_of c.self.inside.numbers) c.args.actor c.args.salt.now c.moment_at-now.result c.self.inside.rows.items
     else c.self.inside.rows.items) c.if-not-done.false)
-    c.in_ok-done.ensures.fits
+    c.requires.written (c.told-salt, c.requires.letters) (let fits = c.moment_at-now.type_inv in omega arith)
     c.in_ok-numbers.ensures.0
     (λ user. c.in_ok-done.ensures.stamps user
     ∙ ap (λ (b : Bool). if b && raises c.args.statement.now (cleared_user c.args.statement.now (target_of (accounts_of c.self.inside.rows.items) c.args.statement.now c.args.actor)) user
@@ -72,3 +72,14 @@ returns-clause-rows g c =
     c.self.invariant now (g.K.Keeper.told_rows c.args.keeper.now)
     ∙ ap (λ (l : Log). option_map (kept_after c.args.statement.now (given (history l)) c.args.actor c.args.salt.now (max c.args.reading (moment (history l))) (records (history l)))
     (g.K.Keeper.told_rows c.args.keeper.now)) c.self.view_is
+
+pub perform-requires-clause-fits : goal.perform-requires-clause-fits
+perform-requires-clause-fits g c =
+    let none : statement_refusal (history c.self.inside.log.value) c.args.statement.now c.args.actor c.args.reading ≡ None =
+    subst (λ (l : Log). statement_refusal (history l) c.args.statement.now c.args.actor c.args.reading ≡ None) (sym c.self.view_is) c.requires.refusal in
+    let now : c.moment_at-now.result ≡ max c.args.reading (moment (history c.self.inside.log.value)) =
+    c.moment_at-now.ensures ∙ ap (λ (l : Log). max c.args.reading (moment (history l))) (sym c.self.view_is) in
+    let below : c.moment_at-now.result < 2 ^ 64 = let fits = c.moment_at-now.type_inv in omega arith in
+    next-fits-here c.self.inside.log.value c.args.statement.now c.args.salt.now c.args.actor c.args.reading 0
+    c.self.inside.rows.items c.self.inside.settings c.self.inside.moment c.moment_at-now.result c.self.inside.numbers c.self.inside.stamps c.self.inside.changes
+    c.self.invariant now none c.requires.written (c.told-salt, c.requires.letters) below

@@ -17,4 +17,4 @@ pub returns-in-Ok-None-clause-count : goal.returns-in-Ok-None-clause-count
 returns-in-Ok-None-clause-count g c =
     count-after c.carry_out.result c.args.self.now c.carry_out.new.self (g.K.Keeper.fault_count c.args.keeper.now) (g.K.Keeper.fault_count c.carry_out.new.keeper)
     (λ reply. execution_of (history c.args.self.now) c.args.statement.now c.args.salt.now c.args.actor c.args.reading (g.K.Keeper.fault_count c.carry_out.new.keeper) reply)
-    (λ reply. refl) c.carry_out.ensures.entry c.carry_out.ensures.err c.requires c.carry_out.ensures.rising
+    (λ reply. refl) c.carry_out.ensures.entry c.carry_out.ensures.err c.requires.count c.carry_out.ensures.rising

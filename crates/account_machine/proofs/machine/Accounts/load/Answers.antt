@@ -1,3 +1,4 @@
+use Rattle.account_machine.proofs.Recorded.{handed-first}
 use Rattle.account_machine.proofs.Renumbered.{log-loaded, stands-loaded}
 use Rattle.account_machine.proofs.machine.Accounts.load.Goals as goal
 
@@ -18,3 +19,6 @@ returns-clause-loaded c =
 pub returns-clause-found : goal.returns-clause-found
 returns-clause-found c = λ accounts good.
     log-loaded accounts c.args.settings c.in_ok-made.made c.as_slice.result.now c.of-log.result.value (c.in_ok-made.ensures.found accounts good) c.as_slice.ensures.value c.of-log.ensures
+
+pub returns-in_err-made-clause-first : goal.returns-in_err-made-clause-first
+returns-in_err-made-clause-first c = λ key first. handed-first c.from_residual.result key _ c.from_residual.ensures.1 (c.in_err-made.ensures.first key first)

@@ -9,13 +9,14 @@ use Rattle.account_history.specs.Refusals.{first_refusal}
 use Rattle.account_machine.specs.Looks.{accounts_of}
 use Rattle.account_machine.specs.Pasts.{HasSetPast}
 use Rattle.account_machine.proofs.Committed.{accounts-kept}
+use Rattle.account_machine.proofs.Holding.{set-of}
 use Rattle.account_machine.proofs.machine.Accounts.refusal.Goals as goal
 
 pub first_refusal-requires : goal.first_refusal-requires
 first_refusal-requires c =
     subst (λ (xs : List Account). All HasSetPast xs)
     (sym (accounts-kept c.as_slice.result.now (history c.self.inside.log.value) (c.as_slice.ensures.value ∙ c.self.invariant.same_rows)))
-    c.self.invariant.set_past
+    (set-of (moment (history c.self.inside.log.value)) (records (history c.self.inside.log.value)) c.self.invariant.fits)
 
 pub returns : goal.returns
 returns c =
