@@ -4,7 +4,6 @@ use Rattle.lg_base.specs.declared.errors.Code.{Code}
 use Rattle.lg_base.specs.declared.errors.Code.TheVariants.{KeeperFault}
 use Rattle.lg_outside.specs.Faults.{Rose}
 use Rattle.stmt_rules.specs.declared.statement.Statement.{Statement}
-use Rattle.account_history.specs.declared.entries.StmtReply.{StmtReply}
 use Rattle.account_history.specs.declared.entries.StmtReply.TheVariants.{Done, Refused}
 use Rattle.account_history.specs.Answers.{reply_to, statement_refusal}
 use Rattle.account_history.specs.Histories.{History}

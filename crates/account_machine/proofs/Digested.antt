@@ -1,5 +1,5 @@
 -- The digests that are kept, after one more entry of a history.
-use Rattle.std.proofs.Common.{◌≡◌, refl, ap, sym, ◌∙◌, ℕ, ◌+◌, ◌*◌, ◌≤◌, suc, max, cond, List, [], ◌∷◌, ◌++◌, length, length-append, Bool, true, false, ◌&&◌, ◌||◌, ◌==◌, if◌then◌else◌, Option, Some, None, subst, arith}
+use Rattle.std.proofs.Common.{◌≡◌, refl, ap, sym, ◌∙◌, ℕ, ◌+◌, ◌*◌, ◌≤◌, suc, max, cond, List, [], ◌∷◌, length, length-append, Bool, true, false, ◌&&◌, ◌||◌, ◌==◌, if◌then◌else◌, Option, Some, None, subst, arith}
 use Rattle.std.proofs.lemmas.List.{length-map}
 use Rattle.digest_cache.specs.Cache.{Cache, digest_of}
 use Rattle.lg_base.specs.declared.errors.Code.{Code}
@@ -7,12 +7,9 @@ use Rattle.factor_chain.specs.declared.credentials.Look.{Look}
 use Rattle.factor_chain.specs.declared.credentials.Stored.{Stored}
 use Rattle.factor_chain.specs.declared.evidence_list.Evidence.{Evidence}
 use Rattle.account_rules.specs.declared.accounts.Account.{Account}
-use Rattle.account_rules.specs.declared.accounts.Settings.{Settings}
-use Rattle.stmt_rules.specs.declared.statement.Change.{Change}
 use Rattle.stmt_rules.specs.declared.statement.Statement.{Statement}
 use Rattle.stmt_rules.specs.declared.statement.Statement.TheVariants.{Create, Alter, Drop, Flush, Grant, Revoke}
 use Rattle.account_history.specs.declared.entries.Attempt.{Attempt}
-use Rattle.account_history.specs.declared.entries.Entry.{Entry}
 use Rattle.account_history.specs.declared.entries.Entry.TheVariants.{Attempted, Executed, Observed}
 use Rattle.account_history.specs.declared.entries.Execution.{Execution}
 use Rattle.account_history.specs.declared.entries.Log.{Log}
@@ -21,9 +18,9 @@ use Rattle.account_history.specs.declared.entries.StmtReply.TheVariants.{Done, R
 use Rattle.account_history.specs.declared.entries.Who.{Who}
 use Rattle.account_history.specs.Effects.{altered, created, effect_of, granted, revoked, with_changed, without}
 use Rattle.account_history.specs.Failures.{opens}
-use Rattle.account_history.specs.Given.{Given, given, is_done}
-use Rattle.account_history.specs.Histories.{History, From, ◌▹◌, history, moment, noted}
-use Rattle.account_history.specs.Known.{clear_password, clears_password, is_number, known, shown_by, shown_on, shown_to}
+use Rattle.account_history.specs.Given.{Given, given}
+use Rattle.account_history.specs.Histories.{History, ◌▹◌, history, moment, noted}
+use Rattle.account_history.specs.Known.{clear_password, clears_password, is_number, known, shown_by, shown_on}
 use Rattle.account_history.specs.Naming.{has_password, holds_password, is_named, or_else}
 use Rattle.account_history.specs.Records.{in_force, records}
 use Rattle.account_history.specs.Stamps.{is_change}

@@ -1,18 +1,18 @@
 -- What a statement does to an account leaves its fields in the ranges of a record.
-use Rattle.std.proofs.Common.{◌≡◌, refl, ap, sym, ◌∙◌, ℕ, zero, suc, ◌+◌, ◌-◌, ◌*◌, ◌/◌, ◌%◌, ◌^◌, ◌<◌, ◌≤◌, max, ◌==◌, List, [], ◌∷◌, ◌++◌, length, map, take, slice_set, find, Bool, true, false, not, ◌&&◌, ◌||◌, if◌then◌else◌, Option, Some, None, IfSome, All, subst, arith, eqb-true, eq-eqb, length-append, length-set}
+use Rattle.std.proofs.Common.{◌≡◌, refl, ap, sym, ℕ, zero, suc, ◌+◌, ◌-◌, ◌^◌, ◌<◌, ◌≤◌, ◌==◌, List, [], ◌∷◌, ◌++◌, length, map, take, slice_set, Bool, true, false, not, ◌&&◌, ◌||◌, if◌then◌else◌, Option, Some, None, All, subst, arith, eq-eqb}
 use Rattle.std.specs.Prelude.{nat_le, slice_index, slice_index_or, Contains}
-use Rattle.std.specs.List.{AllByRecursion, list_any}
+use Rattle.std.specs.List.{list_any}
 use Rattle.std.specs.Int.{bytes_high_first, byte_at, to_be_bytes, w32}
 use Rattle.std.proofs.lemmas.Bool.{leb-true}
 use Rattle.std.proofs.lemmas.List.{length-map, length-take}
-use Rattle.std.proofs.lemmas.List.Elements.{All-append, All-cons, All-from_recursion, All-map, All-nil, All-push, All-set, All-take, recursion_from_All}
+use Rattle.std.proofs.lemmas.List.Elements.{All-append, All-cons, All-nil, All-push, All-set, All-take}
 use Rattle.sha1.specs.Sha1.{digest_bytes, sha1}
 use Rattle.native_scramble.specs.Native.{native_stage2}
 use Rattle.native_scramble.proofs.NativeLaws.{length-sha1}
 use Rattle.sha256_crypt.specs.Alphabet.{IsSaltByte as IsSumByte}
 use Rattle.sha256_crypt.specs.Crypt.{crypt_of, encoded}
 use Rattle.sha256_crypt.proofs.SaltBytes.{All-encoded}
-use Rattle.caching_sha2.specs.Stored.{IsSaltByte, IsStorable}
+use Rattle.caching_sha2.specs.Stored.{IsSaltByte}
 use Rattle.lg_base.specs.declared.names.Name.{Name}
 use Rattle.login_lock.specs.declared.LockTime.{LockTime}
 use Rattle.factor_chain.specs.Checking.{is_empty}
@@ -36,14 +36,14 @@ use Rattle.stmt_rules.specs.declared.statement.FactorAuth.{FactorAuth}
 use Rattle.stmt_rules.specs.declared.statement.Options.{Options}
 use Rattle.stmt_rules.specs.declared.statement.Time.{Time}
 use Rattle.stmt_rules.specs.declared.statement.Time.TheVariants as time
-use Rattle.account_keeper.specs.Record.{Fall, FallFrom, FitsRecord, IsDigest, IsOf, IsSet, LabelFits, LabelsFit, LifetimeFits, LimitFits, LockTimeFits, PasswordFits, PastFits, PastsFit, SecondaryFits, StoredFits, UserFits}
+use Rattle.account_keeper.specs.Record.{Fall, FallFrom, FitsRecord, IsDigest, IsSet, LabelFits, LabelsFit, LifetimeFits, LimitFits, LockTimeFits, PasswordFits, PastFits, PastsFit, SecondaryFits, StoredFits}
 use Rattle.account_history.specs.Effects.{auth_or_none, begun_account, changed, created, expired_without, with_labels}
 use Rattle.account_history.specs.Given.{Given}
 use Rattle.account_history.specs.Histories.{latest_past}
 use Rattle.account_history.specs.Options.{attempts_after, lifetime_after, limit_after, time_after, with_options}
-use Rattle.account_history.specs.Passwords.{method_after, password_of, recorded, same_method, secondary_after, stored_of, with_password}
+use Rattle.account_history.specs.Passwords.{method_after, password_of, recorded, same_method, stored_of, with_password}
 use Rattle.account_history.specs.Preparing.{IsSalt}
-use Rattle.account_history.specs.Refusals.{attempts_fit, auth_in, bound_fits, expire_fits, factors_in, has_zero, is_bad_label, is_bad_user, is_within, misfits, options_fit, retains, time_fits}
+use Rattle.account_history.specs.Refusals.{attempts_fit, auth_in, bound_fits, expire_fits, factors_in, has_zero, is_bad_label, is_bad_user, misfits, options_fit, retains, time_fits}
 use Rattle.account_history.specs.Sound.{AddsAtMostThird}
 use Rattle.account_history.proofs.Soundness.{few-changed}
 

@@ -1,5 +1,5 @@
 -- Each account fits what is kept of it, and does so after a statement that isn't refused.
-use Rattle.std.proofs.Common.{◌≡◌, refl, ap, sym, ◌∙◌, ℕ, zero, suc, ◌+◌, ◌<◌, ◌≤◌, ◌^◌, max, List, [], ◌∷◌, ◌++◌, map, take, find, Bool, true, false, ◌&&◌, if◌then◌else◌, Option, Some, None, IfSome, All, subst, arith}
+use Rattle.std.proofs.Common.{◌≡◌, refl, ℕ, zero, suc, ◌+◌, ◌<◌, ◌≤◌, ◌^◌, List, [], ◌∷◌, take, find, Bool, true, false, ◌&&◌, if◌then◌else◌, Option, Some, None, IfSome, All, arith}
 use Rattle.std.specs.List.{AllByRecursion, list_any}
 use Rattle.std.proofs.lemmas.List.Elements.{All-from_recursion, All-push, recursion_from_All}
 use Rattle.factor_chain.specs.Checking.{is_empty}

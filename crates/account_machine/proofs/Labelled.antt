@@ -1,5 +1,5 @@
 -- Each account, and so each that is seen, has at most two further factors.
-use Rattle.std.proofs.Common.{◌≡◌, sym, subst, ℕ, ◌+◌, List, [], ◌∷◌, find, cond, suc, Bool, true, false, Option, Some, None, IfSome, Result, Ok, Err, IfOk, All, arith}
+use Rattle.std.proofs.Common.{◌≡◌, sym, subst, List, [], ◌∷◌, find, cond, suc, Bool, true, false, Option, Some, None, IfSome, Result, Ok, Err, IfOk, All, arith}
 use Rattle.factor_chain.specs.declared.credentials.Look.{Look}
 use Rattle.account_rules.specs.declared.accounts.Account.{Account}
 use Rattle.account_history.specs.declared.entries.Who.{Who}

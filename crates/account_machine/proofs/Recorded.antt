@@ -1,5 +1,5 @@
 -- Rows that are records, read from the front on.
-use Rattle.std.proofs.Common.{◌≡◌, ◌≢◌, refl, ap, sym, ◌∙◌, ℕ, zero, suc, ◌+◌, ◌*◌, ◌<◌, ◌≤◌, max, List, [], ◌∷◌, ◌++◌, length, map, take, drop, find, Bool, true, false, nat_lt, ltb-true, ltb-false, length-append, Option, Some, None, slice_get, slice_set, slice_index_or, option_map, Result, Ok, Err, IfErr, IsErrAnd, subst, arith, drop-cons}
+use Rattle.std.proofs.Common.{◌≡◌, ◌≢◌, refl, ap, sym, ◌∙◌, ℕ, zero, suc, ◌+◌, ◌<◌, ◌≤◌, max, List, [], ◌∷◌, ◌++◌, length, take, drop, find, Bool, true, false, nat_lt, ltb-true, ltb-false, length-append, Option, Some, None, slice_get, slice_set, slice_index_or, option_map, Result, Ok, Err, IfErr, IsErrAnd, subst, arith, drop-cons}
 use Rattle.std.specs.List.{AllZip}
 use Rattle.std.proofs.lemmas.List.{length-take, map-append, take-append-drop, take-append-le, take_all, take_more}
 use Rattle.std.proofs.lemmas.Option.{get_or_from_slice_get}

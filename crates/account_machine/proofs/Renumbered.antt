@@ -1,5 +1,5 @@
 -- The accounts that are loaded are a start on which the machine stands.
-use Rattle.std.proofs.Common.{◌≡◌, refl, ap, sym, ◌∙◌, ℕ, ◌+◌, ◌<◌, ◌≤◌, List, [], ◌∷◌, length, map, false, Option, Some, None, All, subst, arith}
+use Rattle.std.proofs.Common.{◌≡◌, refl, ap, sym, ◌∙◌, ℕ, ◌+◌, ◌<◌, List, [], ◌∷◌, Option, Some, None, All, subst, arith}
 use Rattle.std.specs.List.{AllByRecursion, AllZip}
 use Rattle.std.proofs.lemmas.List.Elements.{All-cons, All-from_recursion, All-nil}
 use Rattle.lg_outside.specs.Keeping.{Ascend, RiseAbove}
@@ -10,18 +10,14 @@ use Rattle.account_rules.specs.declared.accounts.Account.{Account}
 use Rattle.account_rules.specs.declared.accounts.Settings.{Settings}
 use Rattle.account_keeper.specs.Record.{FitsRecord, SecondaryFits}
 use Rattle.account_history.specs.declared.entries.Log.{Log}
-use Rattle.account_history.specs.Given.{greatest_given}
-use Rattle.account_history.specs.Histories.{From, history, latest_moment}
+use Rattle.account_history.specs.Histories.{From, history}
 use Rattle.account_history.specs.Numbers.{Rise}
 use Rattle.account_history.proofs.Numbered.{numbers-rise}
 use Rattle.account_machine.specs.Counting.{stamp_in}
-use Rattle.account_machine.specs.Executing.{given_of}
-use Rattle.account_machine.specs.Loading.{AreLoadable, IsRowOf, Keeps, loaded, loaded_accounts, numbered, numbered_account, numbered_secondary, passwords_of}
+use Rattle.account_machine.specs.Loading.{AreLoadable, IsRowOf, Keeps, loaded, loaded_accounts, numbered, numbered_secondary, passwords_of}
 use Rattle.account_machine.specs.Looks.{accounts_of}
 use Rattle.account_machine.specs.Openings.{root_account}
-use Rattle.account_machine.specs.Rows.{new_rows}
 use Rattle.account_machine.specs.Stands.{Stands}
-use Rattle.account_machine.specs.declared.executing.Numbers.{Numbers}
 use Rattle.account_machine.specs.declared.loading.Loaded.{Loaded}
 use Rattle.account_machine.specs.declared.rows.Row.{Row}
 use Rattle.account_machine.specs.declared.stamps.Stamps.{Stamps}

@@ -1,39 +1,24 @@
 -- The accounts of a history fit records, and what a keeper tells of them is loaded again.
-use Rattle.std.proofs.Common.{◌≡◌, refl, ap, sym, ◌∙◌, ℕ, zero, suc, ◌+◌, ◌<◌, ◌≤◌, ◌^◌, max, List, [], ◌∷◌, ◌++◌, map, take, find, Bool, true, false, ◌&&◌, if◌then◌else◌, Option, Some, None, IfSome, All, subst, arith}
-use Rattle.std.specs.List.{AllByRecursion, AllZip, list_any}
-use Rattle.std.proofs.lemmas.List.Elements.{All-from_recursion, All-push, recursion_from_All}
+use Rattle.std.proofs.Common.{◌≡◌, refl, sym, ◌∙◌, ℕ, ◌<◌, ◌≤◌, ◌^◌, max, List, [], ◌∷◌, map, find, Bool, true, false, if◌then◌else◌, None, All, subst, arith}
+use Rattle.std.specs.List.{AllByRecursion, AllZip}
+use Rattle.std.proofs.lemmas.List.Elements.{All-from_recursion, recursion_from_All}
 use Rattle.lg_outside.specs.Keeping.{Ascend}
-use Rattle.factor_chain.specs.Checking.{is_empty}
-use Rattle.factor_chain.specs.declared.credentials.PastRecord.{PastRecord}
-use Rattle.factor_chain.specs.declared.credentials.Stored.{Stored}
-use Rattle.password_history.specs.Reuse.{with_latest}
 use Rattle.account_rules.specs.declared.accounts.Account.{Account}
-use Rattle.account_rules.specs.declared.accounts.Settings.{Settings}
-use Rattle.account_keeper.specs.Record.{FitsRecord, PastFits, record_text}
-use Rattle.account_keeper.specs.Records.{IsKey}
+use Rattle.account_keeper.specs.Record.{FitsRecord, record_text}
 use Rattle.account_keeper.proofs.Whole.{is_kept}
-use Rattle.stmt_rules.specs.declared.statement.Change.{Change}
-use Rattle.stmt_rules.specs.declared.statement.Change.TheVariants.{Nothing, Password, Discard, Add, Modify, DropFactor}
-use Rattle.stmt_rules.specs.declared.statement.Options.{Options}
-use Rattle.stmt_rules.specs.declared.statement.Privileges.{Privileges}
-use Rattle.stmt_rules.specs.declared.statement.Statement.{Statement}
-use Rattle.stmt_rules.specs.declared.statement.Statement.TheVariants.{Create, Alter, Drop, Flush, Grant, Revoke}
 use Rattle.account_history.specs.declared.entries.Entry.TheVariants.{Observed, Attempted, Executed}
-use Rattle.account_history.specs.Effects.{altered, auth_or_none, begun_account, changed, created, effect_of, expired_without, granted, revoked, with_changed, without}
-use Rattle.account_history.specs.Given.{Given, given, is_done}
-use Rattle.account_history.specs.Histories.{History, From, ◌▹◌, latest_moment, latest_past, moment, start_of}
+use Rattle.account_history.specs.Effects.{effect_of}
+use Rattle.account_history.specs.Given.{given, is_done}
+use Rattle.account_history.specs.Histories.{History, From, ◌▹◌, latest_moment, moment, start_of}
 use Rattle.account_history.specs.Legal.{IsLegal}
 use Rattle.account_history.specs.Naming.{has_id, is_named}
 use Rattle.account_history.specs.Numbers.{Rise, RiseTo}
-use Rattle.account_history.specs.Passwords.{recorded, with_password}
 use Rattle.account_history.specs.Records.{records}
-use Rattle.account_history.specs.Refusals.{auth_in, factors_in, is_bad_label, misfits, options_fit, retains}
-use Rattle.account_history.specs.Sound.{AddsAtMostThird, AreSound, AreWritten, IsWritten, NamesDiffer}
-use Rattle.account_history.specs.Targets.{is_target, of_account, target_of}
-use Rattle.account_history.proofs.Accepted.{IsAccepted, done-accepted}
+use Rattle.account_history.specs.Sound.{AreWritten, NamesDiffer}
+use Rattle.account_history.proofs.Accepted.{done-accepted}
 use Rattle.account_history.proofs.Numbered.{passed, passing, rise-of}
-use Rattle.account_history.proofs.Soundness.{accounts-sound, all-changed, all-without, keeps-all}
-use Rattle.account_machine.specs.Loading.{AreLoadable, IsRowOf}
+use Rattle.account_history.proofs.Soundness.{accounts-sound}
+use Rattle.account_machine.specs.Loading.{IsRowOf}
 use Rattle.account_machine.specs.Fitting.{FitsAt}
 use Rattle.account_machine.specs.Restarts.{AreLoadedAgain, HaveRanges, RecordsFit, RestartsKeepAccounts, as_read, rows_kept, rows_after}
 use Rattle.account_machine.proofs.Holding.{begun-holds, effect-holds, later-holds, moments-below}

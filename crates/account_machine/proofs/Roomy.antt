@@ -1,5 +1,5 @@
 -- The room for digests of passwords that have none.
-use Rattle.std.proofs.Common.{◌≡◌, refl, ap, sym, ◌∙◌, ℕ, zero, suc, ◌+◌, ◌*◌, ◌≤◌, ◌<◌, List, [], ◌∷◌, length, Bool, true, false, ◌||◌, ◌==◌, if◌then◌else◌, Option, Some, None, slice_get, eqb-true, eq-eqb, subst, arith}
+use Rattle.std.proofs.Common.{◌≡◌, ap, sym, ◌∙◌, ℕ, zero, suc, ◌+◌, ◌*◌, ◌≤◌, List, [], ◌∷◌, length, Bool, true, false, if◌then◌else◌, Option, Some, None, slice_get, eq-eqb, arith}
 use Rattle.std.specs.Prelude.{nat_eq}
 use Rattle.digest_cache.specs.Cache.{or_digest, put_in, room_for}
 use Rattle.factor_chain.specs.declared.credentials.Stored.{Stored}

@@ -1,5 +1,5 @@
 -- The digest that evidence shows, and which of an account's passwords it is of.
-use Rattle.std.proofs.Common.{◌≡◌, refl, ap, sym, ◌∙◌, ℕ, ◌+◌, ◌≤◌, List, [], ◌∷◌, length, drop, Bool, true, false, not, ◌&&◌, ◌==◌, if◌then◌else◌, Option, Some, None, option_map, subst, arith}
+use Rattle.std.proofs.Common.{◌≡◌, refl, ap, sym, ◌∙◌, ℕ, ◌+◌, ◌≤◌, List, [], ◌∷◌, length, drop, Bool, true, false, ◌&&◌, ◌==◌, if◌then◌else◌, Option, Some, None, option_map, arith}
 use Rattle.std.specs.Prelude.{nat_eq}
 use Rattle.std.specs.List.{list_all, enumerate_from}
 use Rattle.caching_sha2.specs.Fast.{digest_of}
@@ -9,7 +9,6 @@ use Rattle.factor_chain.specs.declared.credentials.Credential.{Credential}
 use Rattle.factor_chain.specs.declared.credentials.Stored.{Stored}
 use Rattle.factor_chain.specs.declared.evidence_list.Evidence.{Evidence}
 use Rattle.factor_chain.specs.declared.evidence_list.Evidence.TheVariants as evidence
-use Rattle.factor_chain.specs.declared.evidence_list.Fit.{Fit}
 use Rattle.factor_chain.specs.declared.evidence_list.Fit.TheVariants as fit
 use Rattle.login_lock.specs.Lock.{is_blocked, next_locks}
 use Rattle.login_lock.specs.declared.Tally.{Tally}
@@ -19,7 +18,7 @@ use Rattle.account_rules.specs.Refusals.{resumed}
 use Rattle.account_rules.specs.declared.refusals.Rule.TheVariants as rule
 use Rattle.account_history.specs.Answers.{account_reply, reply_of}
 use Rattle.account_history.specs.Failures.{opens}
-use Rattle.account_history.specs.Known.{clear_password, credential, fitted, fitted_second, is_number, primary_of, secondary_of, shown_by, shown_of}
+use Rattle.account_history.specs.Known.{clear_password, credential, fitted, fitted_second, primary_of, secondary_of, shown_of}
 use Rattle.account_history.specs.Naming.{or_else}
 use Rattle.account_history.specs.Verifying.{account_verifies}
 use Rattle.account_machine.specs.Digesting.{first_of_all, first_on, number_of, second_number, verdict_on}

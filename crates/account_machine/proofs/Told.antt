@@ -1,7 +1,7 @@
 -- The rows that a keeper tells after a run are the records of the accounts.
-use Rattle.std.proofs.Common.{◌≡◌, refl, ap, sym, ◌∙◌, ℕ, ◌+◌, ◌<◌, ◌≤◌, max, List, [], ◌∷◌, ◌++◌, map, find, cond, Bool, true, false, if◌then◌else◌, Option, Some, None, nat_lt, subst, arith}
-use Rattle.std.proofs.lemmas.List.{append-nil, map-append}
-use Rattle.lg_outside.specs.Keeping.{RiseAbove, put_row, rows_above, rows_below}
+use Rattle.std.proofs.Common.{◌≡◌, refl, ap, sym, ◌∙◌, ℕ, ◌+◌, ◌<◌, ◌≤◌, max, List, [], ◌∷◌, ◌++◌, find, cond, Bool, true, false, if◌then◌else◌, Option, Some, None, arith}
+use Rattle.std.proofs.lemmas.List.{map-append}
+use Rattle.lg_outside.specs.Keeping.{RiseAbove, put_row}
 use Rattle.lg_outside.specs.declared.keepers.Row.{Row as Kept}
 use Rattle.account_rules.specs.declared.accounts.Account.{Account}
 use Rattle.account_keeper.specs.Record.{record_text}
@@ -11,7 +11,7 @@ use Rattle.stmt_rules.specs.declared.statement.Statement.TheVariants.{Create, Al
 use Rattle.account_history.specs.declared.entries.Entry.TheVariants.{Observed, Attempted, Executed}
 use Rattle.account_history.specs.Effects.{altered, created, effect_of, granted, revoked, with_changed, without}
 use Rattle.account_history.specs.Given.{Given, given, is_done}
-use Rattle.account_history.specs.Histories.{History, From, ◌▹◌, moment}
+use Rattle.account_history.specs.Histories.{From, ◌▹◌, moment}
 use Rattle.account_history.specs.Naming.{is_named}
 use Rattle.account_history.specs.Numbers.{Rise, RiseTo}
 use Rattle.account_history.specs.Records.{records}

@@ -1,5 +1,5 @@
 -- The digests that the machine keeps, and the room for those that it may have to keep.
-use Rattle.std.specs.Prelude.{◌≡◌, ℕ, ◌+◌, ◌*◌, ◌≤◌, ◌==◌, ◌||◌, Bool, true, false, if◌then◌else◌, List, [], ◌∷◌, Option, Some, None, option_map}
+use Rattle.std.specs.Prelude.{◌≡◌, ℕ, ◌+◌, ◌≤◌, ◌==◌, ◌||◌, Bool, true, false, if◌then◌else◌, List, [], ◌∷◌, Option, Some, None}
 use Rattle.digest_cache.specs.Cache.{Cache, digest_of, room_for}
 use Rattle.factor_chain.specs.Checking.{first_fit}
 use Rattle.factor_chain.specs.declared.credentials.Credential.{Credential}

@@ -12,7 +12,6 @@ use Rattle.account_history.specs.Histories.{latest_moment}
 use Rattle.account_history.specs.Naming.{is_named}
 use Rattle.account_history.specs.Sound.{NamesDiffer}
 use Rattle.account_machine.specs.Executing.{given_of}
-use Rattle.account_machine.specs.Looks.{accounts_of}
 use Rattle.account_machine.specs.Openings.{root_account}
 use Rattle.account_machine.specs.Rows.{new_rows}
 use Rattle.account_machine.specs.declared.loading.Loaded.{Loaded}

@@ -1,5 +1,5 @@
 -- What a keeper tells after a run, and what is loaded of it when the server starts again.
-use Rattle.std.specs.Prelude.{◌≡◌, ℕ, ◌<◌, ◌≤◌, ◌^◌, max, List, map, if◌then◌else◌}
+use Rattle.std.specs.Prelude.{◌≡◌, ◌<◌, ◌≤◌, ◌^◌, max, List, map, if◌then◌else◌}
 use Rattle.std.specs.List.{All}
 use Rattle.lg_outside.specs.Keeping.{Ascend}
 use Rattle.lg_outside.specs.declared.keepers.Row.{Row as Kept}

@@ -1,4 +1,4 @@
-use Rattle.std.proofs.Common.{◌≡◌, ◌∙◌, ap, sym, Bool, true, List, ℕ, ◌≤◌, length, arith}
+use Rattle.std.proofs.Common.{◌≡◌, ◌∙◌, ap, sym, Bool, true, ◌≤◌, length, arith}
 use Rattle.digest_cache.specs.Cache.{digest_of}
 use Rattle.factor_chain.specs.Checking.{is_fit}
 use Rattle.login_lock.specs.Lock.{after, tally_of}

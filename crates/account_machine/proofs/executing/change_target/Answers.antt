@@ -1,4 +1,4 @@
-use Rattle.std.proofs.Common.{◌≡◌, ◌∙◌, ap, sym, subst, List, Bool, Option, Some, IfSome, slice_set}
+use Rattle.std.proofs.Common.{◌≡◌, ◌∙◌, ap, sym, subst, List, Option, Some, IfSome, slice_set}
 use Rattle.account_rules.specs.declared.accounts.Account.{Account}
 use Rattle.account_keeper.specs.Record.{FitsRecord}
 use Rattle.account_history.specs.Targets.{is_named_by, target_of}

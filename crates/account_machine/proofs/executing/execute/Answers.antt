@@ -1,4 +1,4 @@
-use Rattle.std.proofs.Common.{◌≡◌, ap, sym, subst, Bool, IfSome, IfOk, if◌then◌else◌}
+use Rattle.std.proofs.Common.{◌≡◌, ap, sym, subst, IfSome, IfOk, if◌then◌else◌}
 use Rattle.account_keeper.specs.Record.{FitsRecord}
 use Rattle.account_history.specs.Effects.{without}
 use Rattle.account_history.specs.Targets.{is_named_by, target_of}

@@ -1,5 +1,4 @@
 use Rattle.std.proofs.Common.{◌≡◌, sym, subst, refl, List, ℕ}
-use Rattle.lg_base.specs.declared.names.Name.{Name}
 use Rattle.account_rules.specs.declared.accounts.Account.{Account}
 use Rattle.account_keeper.specs.Records.{IsRecord}
 use Rattle.account_history.specs.Naming.{is_named}

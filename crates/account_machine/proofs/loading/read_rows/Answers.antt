@@ -1,6 +1,4 @@
-use Rattle.std.proofs.Common.{◌≡◌, ◌∙◌, ap, sym, subst, ◌<◌, List, length, find, None, arith}
-use Rattle.lg_outside.specs.declared.keepers.Row.{Row as Kept}
-use Rattle.account_rules.specs.declared.accounts.Account.{Account}
+use Rattle.std.proofs.Common.{◌∙◌, ap, sym, subst, List, find, arith}
 use Rattle.account_history.specs.Naming.{is_named}
 use Rattle.account_machine.specs.Loading.{IsRowFault}
 use Rattle.account_machine.specs.Looks.{accounts_of}

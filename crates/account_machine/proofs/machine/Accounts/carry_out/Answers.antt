@@ -1,4 +1,4 @@
-use Rattle.std.proofs.Common.{◌≡◌, ◌≤◌, ◌+◌, ◌&&◌, ◌∙◌, ap, sym, subst, max, ℕ, length, List, Bool, None, Ok, option_map, if◌then◌else◌, arith, ◌<◌, ◌^◌}
+use Rattle.std.proofs.Common.{◌≡◌, ◌≤◌, ◌+◌, ◌&&◌, ◌∙◌, ap, sym, subst, max, length, List, Bool, None, Ok, option_map, if◌then◌else◌, arith, ◌<◌, ◌^◌}
 use Rattle.account_rules.specs.declared.accounts.Account.{Account}
 use Rattle.account_history.specs.declared.entries.Log.{Log}
 use Rattle.account_history.specs.Answers.{statement_refusal}
