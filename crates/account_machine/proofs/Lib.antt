@@ -20,6 +20,6 @@ mod Roomy
 mod Seen
 mod Shown
 mod Starts
-mod Told
+pub mod Told
 mod Unrefused
 mod Written

@@ -54,8 +54,11 @@ impl Model for Accounts {
 
 impl Accounts {
     ghost use Rattle.account_history.specs.Answers.{attempt_reply, look_of, statement_refusal, statement_reply};
+    ghost use Rattle.account_history.specs.Given.{given};
     ghost use Rattle.account_history.specs.Histories.{history, moment, noted};
     ghost use Rattle.account_history.specs.Legal.{IsExecuted, IsLegal, changes_accounts, last_count};
+    ghost use Rattle.account_history.specs.Numbers.{RiseTo};
+    ghost use Rattle.account_history.specs.Records.{records};
     ghost use Rattle.account_history.specs.Sound.{IsWritten};
     ghost use Rattle.account_history.specs.Stamps.{stamp};
     ghost use Rattle.account_history.specs.declared.entries.Entry.TheVariants.{Attempted, Executed, Observed};
@@ -182,9 +185,10 @@ impl Accounts {
         self.stamps.of(user)
     }
 
-    /// That the history is legal.
+    /// That the history is legal, and the numbers of its accounts rise up to the greatest that was given.
     pub fn is_legal(&self)
-        ensures { IsLegal (history self.now) }
+        ensures legal { IsLegal (history self.now) }
+        ensures rising { RiseTo 0 (given (history self.now)).account (records (history self.now)) }
     {
         let _log = &self.log;
     }
