@@ -2,18 +2,23 @@
 
 ghost use Rattle.session_engine.specs.Standing.{next_of, talk_of_session};
 ghost use Rattle.session_probe.specs.Fitting.{gives_back};
+ghost use Rattle.account_history.specs.Preparing.{is_preparable};
+ghost use Rattle.session_talk.specs.Doable.{AsksWell, CanBeDone};
 ghost use Rattle.session_talk.specs.Talk.{Own};
-ghost use Rattle.session_talk.specs.Turns.{IsAsked, IsFitting, asked};
-ghost use Rattle.std.specs.Prelude.{◌≡◌, IfOk, IfSome, not};
+ghost use Rattle.session_talk.specs.Turns.{IsAsked, IsFitting, asked, is_nonce};
+ghost use Rattle.std.specs.Prelude.{◌≡◌, IfOk, IfSome, IsTrue, not};
+ghost use Rattle.stmt_syntax.specs.Reading.{IsReadable};
 
 use crate::given::plain_input;
 use crate::looks::NONCE;
-use factor_chain::check;
+use account_history::{Prepared, prepare};
+use factor_chain::{Look, check};
 use lg_base::Memory;
 use session_engine::Session;
 use session_talk::{Action, Ask, Input};
 use std::alloc::Global;
 use std::mem;
+use stmt_rules::Statement;
 
 /// A session, and what it did last.
 #[derive(Drop)]
@@ -21,6 +26,8 @@ pub struct Driven {
     pub session: Session,
     pub action: Action,
     ghost asks: { action.ask ≡ asked (next_of session) (talk_of_session session) },
+    ghost well: { AsksWell (talk_of_session session) },
+    ghost can: { CanBeDone action.ask },
 }
 
 /// Where the session stands that the lines drive.
@@ -49,7 +56,46 @@ fn stale(ask: Ask) -> Option<Input>
 {
     match ask {
         Ask::Settle { checked, flags: _ } => Some(Input::Stale(checked.into_evidences())),
+        Ask::Commit { prepared, actor: _ } => {
+            Some(Input::StaleStatement(prepared.into_statement()))
+        }
         _ => None,
+    }
+}
+
+/// A statement that was asked about, prepared.
+#[tactic(auto, using(crate::proofs::Fitting::is_written, crate::proofs::Fitting::has_letters))]
+fn prepare_statement(
+    alloc: Global,
+    look: Look,
+    statement: Statement,
+    salt: [u8; 20],
+    actor: u64,
+) -> Result<Prepared, Memory>
+    requires readable { IsReadable statement }
+    requires kind { IsTrue (is_preparable statement) }
+    requires letters { IsTrue (is_nonce salt) }
+    ensures { IfOk result (λ p. p ≡ record { look = look; statement = statement; salt = salt; actor = actor }) }
+{
+    prepare(alloc, look, statement, &salt, actor)
+}
+
+/// What was asked about, prepared.
+fn prepared(alloc: Global, ask: Ask) -> Result<Option<Input>, Memory>
+    requires { CanBeDone ask }
+    ensures { IfOk result (λ input. IfSome input (IsFitting (Own ask))) }
+{
+    match ask {
+        Ask::Prepare {
+            look,
+            statement,
+            salt,
+            actor,
+        } => {
+            let made = prepare_statement(alloc, look, statement, salt, actor)?;
+            Ok(Some(Input::Prepared(made)))
+        }
+        _ => Ok(None),
     }
 }
 
@@ -57,7 +103,10 @@ fn stale(ask: Ask) -> Option<Input>
 fn is_plain(input: &Input) -> bool
     ensures { result ≡ not (gives_back input.now) }
 {
-    !matches!(input, Input::Checked(_) | Input::Stale(_))
+    !matches!(
+        input,
+        Input::Checked(_) | Input::Stale(_) | Input::Prepared(_) | Input::StaleStatement(_)
+    )
 }
 
 /// An input of the other kinds.
@@ -74,18 +123,22 @@ fn other(alloc: Global, ask: Ask, words: &[&str]) -> Result<Option<Input>, Memor
 
 /// The input of a line.
 fn input_of(alloc: Global, ask: Ask, words: &[&str]) -> Result<Option<Input>, Memory>
+    requires { CanBeDone ask }
     ensures { IfOk result (λ input. IfSome input (IsFitting (Own ask))) }
 {
     match words {
         ["checked"] => Ok(checked(ask)),
         ["stale"] => Ok(stale(ask)),
+        ["prepared"] => prepared(alloc, ask),
         _ => other(alloc, ask, words),
     }
 }
 
 /// Gives a session an input that fits what it asked.
+#[tactic(auto, using(crate::proofs::Fitting::goes_on_well, crate::proofs::Fitting::asks_well))]
 fn give(session: Session, input: Input) -> State
-    requires { IsAsked (talk_of_session session) input }
+    requires asked { IsAsked (talk_of_session session) input }
+    requires well { AsksWell (talk_of_session session) }
 {
     let mut session = session;
     if !session.answers(&input) {
@@ -118,7 +171,9 @@ pub fn answer(alloc: Global, state: &mut State, words: &[&str]) {
 
 /// Gives a session an input that gives nothing back.
 #[tactic(auto, using(crate::proofs::Fitting::plain_is_asked))]
-fn give_plain(session: Session, input: Input) -> State {
+fn give_plain(session: Session, input: Input) -> State
+    requires { AsksWell (talk_of_session session) }
+{
     if !is_plain(&input) {
         return State::Absent;
     }
@@ -126,6 +181,7 @@ fn give_plain(session: Session, input: Input) -> State {
 }
 
 /// A new session that has its first nonce.
+#[tactic(auto, using(crate::proofs::Fitting::new_is_well))]
 pub fn begin(alloc: Global) -> State {
     give_plain(Session::new(alloc, 1), Input::Start { nonce: NONCE })
 }

@@ -8,8 +8,9 @@
 //! | `packet ID HEX` | a packet with this sequence id and payload |
 //! | `drawn TEXT` | a nonce of 20 bytes |
 //! | `looked ACCOUNT STAMP` | a look that shows such an account |
-//! | `checked`, `stale` | what was asked about, checked, or not settled |
-//! | `opened`, `denied`, `blank`, `locked`, `blocked DAYS LEFT` | the reply to an attempt |
+//! | `checked`, `prepared`, `stale` | what was asked about, checked, prepared, or neither settled nor executed |
+//! | `opened`, `sandbox`, `denied`, `blank`, `locked`, `blocked DAYS LEFT` | the reply to an attempt |
+//! | `ran done`, `ran reused`, `ran fault` | the reply to a statement |
 //! | `memory` | no memory for a packet |
 //! | `answers` | changes nothing: which inputs answer the session |
 //! | `nonces` | the same of nonces that begin or end with each byte |
