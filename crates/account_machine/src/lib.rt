@@ -11,7 +11,6 @@
 mod attempting;
 mod clearing;
 mod committing;
-mod effects;
 pub mod executing;
 mod forgetting;
 mod keeping;
@@ -21,8 +20,6 @@ mod looks;
 pub mod machine;
 mod notes;
 mod openings;
-mod options;
-mod refusals;
 pub mod rows;
 pub mod stamps;
 mod targets;
