@@ -5,7 +5,6 @@ ghost use Rattle.loginctl.specs.Replayed.{IsDue, script_text};
 ghost use Rattle.std.specs.Prelude.{◌≡◌, IfOk};
 
 use crate::printing::add_number;
-use crate::status::Status;
 use lg_base::{Memory, Out};
 use script_text::{Script, ScriptFault};
 use session_world::World;
@@ -18,7 +17,7 @@ pub const LONGEST_SCRIPT: usize = 16_777_216;
 /// What is due for an input: a status, and a text to print.
 #[derive(Drop)]
 pub struct Outcome {
-    pub status: Status,
+    pub status: u8,
     pub text: Out,
 }
 
@@ -49,11 +48,11 @@ fn bad_line(alloc: Global, number: u64) -> Result<Out, Memory>
 
 /// What is due for an input that is no script.
 fn refused(alloc: Global, line: u64) -> Result<Outcome, Memory>
-    ensures status { IfOk result (λ due. due.status ≡ Status.BadInput) }
+    ensures status { IfOk result (λ due. due.status ≡ 3) }
     ensures line { IfOk result (λ due. due.text ≡ text.bad_line line) }
 {
     Ok(Outcome {
-        status: Status::BadInput,
+        status: 3,
         text: bad_line(alloc, line)?,
     })
 }
@@ -71,7 +70,7 @@ pub fn due_for(alloc: Global, input: &[u8]) -> Result<Outcome, Memory>
     sessions_are_transcripts();
     match Script::read(alloc, input) {
         Ok(script) => Ok(Outcome {
-            status: Status::Done,
+            status: 0,
             text: replayed(alloc, &script)?,
         }),
         Err(ScriptFault::BadLine { line }) => refused(alloc, line),
