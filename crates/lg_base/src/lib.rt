@@ -8,6 +8,7 @@
 
 pub mod allocation;
 pub mod byte_list;
+pub mod crossing;
 pub mod errors;
 pub mod input;
 pub mod item_list;
@@ -16,6 +17,7 @@ pub mod output;
 
 pub use allocation::Memory;
 pub use byte_list::Bytes;
+pub use crossing::crosses;
 pub use errors::{Code, Operation};
 pub use input::{ReadFault, Reader};
 pub use item_list::Items;
