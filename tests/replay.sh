@@ -18,7 +18,7 @@ trap 'rm -rf "$folder"' EXIT
 printed=$folder/printed
 expected=$folder/expected
 # So many runs are stored at least: none goes unnoticed.
-least=114
+least=130
 passed=0
 failed=0
 

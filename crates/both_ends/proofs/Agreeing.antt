@@ -122,28 +122,28 @@ goes-along claim reply more _ c next _ owns goes nonces used found = absurd (no-
 -- ## A session
 
 module _ (claim : Claim) where
-  outcome-told : (c : client.Talk) → IsReady (hearing c) → (user : List ℕ) (reply : Reply) → Tells c reply (outcome user reply)
-  outcome-told c ready user (Opened account host) = (Accepts, ok-heard, ready.ok)
-  outcome-told c ready user (Sandbox account host) = (Accepts, ok-heard, ready.ok)
-  outcome-told c ready user (Blocked rule left) =
-      (Refuses 3955, error-heard (code.Blocked user (days_of rule.time) left rule.attempts), ready.err 3955)
-  outcome-told c ready user (Denied using_password) = (Refuses 1045, error-heard (code.Denied user using_password), ready.err 1045)
-  outcome-told c ready user Locked = (Refuses 3118, error-heard (code.Locked user), ready.err 3118)
-  outcome-told c ready user MustChange = (Refuses 1862, error-heard code.MustChange, ready.err 1862)
+  outcome-told : (c : client.Talk) → IsReady (hearing c) → (a : Attempting) (reply : Reply) → Tells c reply (outcome a reply)
+  outcome-told c ready a (Opened account host) = (Accepts, ok-heard, ready.ok)
+  outcome-told c ready a (Sandbox account host) = (Accepts, ok-heard, ready.ok)
+  outcome-told c ready a (Blocked rule left) =
+      (Refuses 3955, error-heard (code.Blocked a.user (days_of rule.time) left rule.attempts), ready.err 3955)
+  outcome-told c ready a (Denied using_password) = (Refuses 1045, error-heard (code.Denied a.user using_password), ready.err 1045)
+  outcome-told c ready a Locked = (Refuses 3118, error-heard (code.Locked a.user), ready.err 3118)
+  outcome-told c ready a MustChange = (Refuses 1862, error-heard code.MustChange, ready.err 1862)
 
   -- of an answer, and of the talk after it
   abbrev Along : client.Talk → Input → SessionTalk → Type 0
   Along c given t = HasWholeNonce given → ByReply (GoesAlong claim c t) (λ reply. Tells c reply t) given
 
   locking-along : (c : client.Talk) → IsReady (hearing c) → (a : Attempting) (evidences : List Evidence) → GoesAlong claim c (locking a evidences)
-  locking-along c ready a evidences = locked_taken (Along c) a.user evidences a.flags (outcome a.user) (λ reply whole. outcome-told c ready a.user reply)
+  locking-along c ready a evidences = locked_taken (Along c) a.user evidences a.flags (outcome a) (λ reply whole. outcome-told c ready a reply)
 
   checking-along : (c : client.Talk) → IsReady (hearing c) → (stale : SessionTalk) → GoesAlong claim c stale → (a : Attempting) (look : Look) (evidences : List Evidence) →
       GoesAlong claim c (checking_or stale a look evidences)
   checking-along c ready stale goes a look evidences =
       checked_taken (Along c) look evidences (settling_or stale a (record { look = look; evidences = evidences }))
-      (λ checked whole. settled_taken (Along c) (record { look = look; evidences = evidences }) a.flags stale (outcome a.user)
-      (λ back whole'. goes) (λ reply whole'. outcome-told c ready a.user reply))
+      (λ checked whole. settled_taken (Along c) (record { look = look; evidences = evidences }) a.flags stale (outcome a)
+      (λ back whole'. goes) (λ reply whole'. outcome-told c ready a reply))
 
   renewing-along : (c : client.Talk) → IsReady (hearing c) → (a : Attempting) (evidences : List Evidence) → GoesAlong claim c (renewing a evidences)
   renewing-along c ready a evidences =

@@ -100,6 +100,11 @@ adds-reply (Own (ask.Check look evidences)) (input.Checked checked) added more o
 adds-reply (Own (ask.Settle checked flags)) (input.Stale evidences) added more owns is adds e = ap (λ (es : List Entry). first_entered (es ++ more)) adds ∙ e
 adds-reply (Own (ask.Settle checked flags)) (input.Settled reply) added more owns is adds e = ap (λ (es : List Entry). first_entered (es ++ more)) adds.1
 adds-reply (Own (ask.SettleLocked user evidences flags)) (input.Settled reply) added more owns is adds e = ap (λ (es : List Entry). first_entered (es ++ more)) adds.1
+adds-reply (Own (ask.Prepare look statement salt actor)) (input.Prepared prepared) added more owns is adds e = ap (λ (es : List Entry). first_entered (es ++ more)) adds ∙ e
+adds-reply (Own (ask.Commit prepared actor)) (input.StaleStatement statement) added more owns is adds e = ap (λ (es : List Entry). first_entered (es ++ more)) adds ∙ e
+adds-reply (Own (ask.Commit prepared actor)) (input.Ran reply) added more owns is adds e = ap (λ (es : List Entry). first_entered (es ++ more)) adds.4 ∙ e
+adds-reply (Own (ask.CommitLocked statement salt actor)) (input.Ran reply) added more owns is adds e = ap (λ (es : List Entry). first_entered (es ++ more)) adds.4 ∙ e
+adds-reply (Own (ask.CommitPlain statement actor)) (input.Ran reply) added more owns is adds e = ap (λ (es : List Entry). first_entered (es ++ more)) adds.4 ∙ e
 adds-reply _ _ added more owns is adds e = absurd (untrue is)
 
 -- the first attempt that is entered has the first reply, and all answers are come to

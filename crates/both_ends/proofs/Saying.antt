@@ -10,7 +10,11 @@ use Rattle.factor_chain.specs.declared.credentials.Method.{Method}
 use Rattle.factor_chain.specs.declared.credentials.Method.TheVariants.{Native, CachingSha2}
 use Rattle.factor_chain.specs.declared.evidence_list.Evidence.{Evidence}
 use Rattle.factor_chain.specs.declared.evidence_list.Evidence.TheVariants as evidence
+use Rattle.account_history.specs.Preparing.{PreparedOf, is_preparable, who_of}
+use Rattle.account_history.specs.Refusals.{auth_of}
 use Rattle.account_history.specs.declared.entries.Reply.{Reply}
+use Rattle.account_history.specs.declared.entries.StmtReply.{StmtReply}
+use Rattle.account_history.specs.declared.entries.StmtReply.TheVariants.{Done, Refused}
 use Rattle.account_history.specs.declared.entries.Reply.TheVariants.{Opened, Sandbox, Blocked, Denied, Locked, MustChange}
 use Rattle.account_history.specs.declared.entries.Who.TheVariants.{Login}
 use Rattle.wire_form.specs.Payloads.{start}
@@ -21,8 +25,9 @@ use Rattle.auth_packets.specs.declared.commands.Command.TheVariants.{Quit, Query
 use Rattle.auth_packets.specs.declared.handshake.Response.{Response}
 use Rattle.packet_stream.specs.Sent.{id_behind}
 use Rattle.interaction.specs.Talk.{Got, Says, Hears, Asks, Over}
-use Rattle.session_talk.specs.Logins.{all_commands, answering, attempt_of, caching, checking_or, claim_of, claimed, clear_evidence, commanded, commands, greeting, heard_by, is_blank, is_named, locking, method_of, next_command, outcome, proved, proving, renewing, responded, session, settling_or, without_zero}
+use Rattle.session_talk.specs.Logins.{all_commands, answering, attempt_of, caching, checking_or, claim_of, claimed, clear_evidence, commanded, commands_left, greeting, heard_by, is_blank, is_named, locking, method_of, next_command, opened_on, outcome, proved, proving, renewing, responded, session, settling_or, with_left, without_zero}
 use Rattle.session_talk.specs.Owed.{Owed, owed}
+use Rattle.session_talk.specs.Statements.{committing_locked, committing_or, executing, has_password, is_let_through, looking_again, no_salt, out_of_sandbox, preparing, preparing_or, queried_for, ran, salted, stated, statement_in}
 use Rattle.session_talk.specs.Talk.{SessionTalk}
 use Rattle.session_talk.specs.Texts.{error_payload, fast_payload, full_payload, greeting_payload, ok_payload, switch_payload}
 use Rattle.session_talk.specs.Turns.{takes}
@@ -30,8 +35,10 @@ use Rattle.session_talk.specs.declared.attempts.Attempting.{Attempting}
 use Rattle.session_talk.specs.declared.attempts.Claim.{Claim}
 use Rattle.session_talk.specs.declared.inputs.Input.{Input}
 use Rattle.session_talk.specs.declared.inputs.Input.TheVariants as input
+use Rattle.session_talk.specs.declared.open_session.OpenSession.{OpenSession}
+use Rattle.stmt_rules.specs.declared.statement.Statement.{Statement}
 use Rattle.session_talk.proofs.Taking.{owed_by_kind}
-use Rattle.session_talk.proofs.Words.{checked_taken, drawn_taken, locked_taken, look_taken, renewed_taken, settled_taken, start_taken, switched_to}
+use Rattle.session_talk.proofs.Words.{checked_taken, drawn_taken, locked_taken, look_taken, prepared_taken, ran_locked_taken, ran_plain_taken, ran_taken, renewed_taken, settled_taken, start_taken, switched_to}
 use Rattle.both_ends.specs.Meeting.{Opens, first_reply, payloads_of}
 
 -- ## Talks
@@ -112,42 +119,94 @@ pub record Kinds (P : List ℕ → Type 0) (Q : Reply → List ℕ → Type 0) :
   pub error : (reply : Reply) (error : Code) → Q reply (error_payload error)
 
 module _ (P : List ℕ → Type 0) (Q : Reply → List ℕ → Type 0) (kinds : Kinds P Q) where
-  commanded-says : (reply : Reply) → Opens (Some reply) → (found : Result Command ℕ) (next : SessionTalk) → SaysAll (Q reply) next → SaysAll (Q reply) (commanded found next)
-  commanded-says reply opens (Ok Quit) next says = tt
-  commanded-says reply opens (Ok Ping) next says = (kinds.ok reply opens, says)
-  commanded-says reply opens (Ok Reset) next says = (kinds.ok reply opens, says)
-  commanded-says reply opens (Ok (Query text)) next says = (kinds.error reply code.UnknownCommand, says)
-  commanded-says reply opens (Ok (Change v)) next says = (kinds.error reply code.UnknownCommand, says)
-  commanded-says reply opens (Ok (Other first)) next says = (kinds.error reply code.UnknownCommand, says)
-  commanded-says reply opens (Ok Nothing) next says = (kinds.error reply code.UnknownCommand, says)
-  commanded-says reply opens (Err at) next says = (kinds.error reply code.UnknownCommand, says)
+  -- after the reply: each command is answered OK or an error, and a statement too
+  module _ (reply : Reply) (opens : Opens (Some reply)) (goes_on : OpenSession → SessionTalk) (all : (later : OpenSession) → SaysAll (Q reply) (goes_on later)) where
+    -- of an answer, and of the talk after it
+    abbrev SaysSo : Input → SessionTalk → Type 0
+    SaysSo given t = SaysAll (Q reply) t
 
-  command-says : (reply : Reply) → Opens (Some reply) → (left : ℕ) (payload : List ℕ) → SaysAll (Q reply) (next_command left payload)
+    ran-says : (opened : OpenSession) (told : StmtReply) → SaysAll (Q reply) (ran goes_on opened told)
+    ran-says opened Done = (kinds.ok reply opens, all (out_of_sandbox opened))
+    ran-says opened (Refused error) = (kinds.error reply error, all opened)
+
+    locked-says : (opened : OpenSession) (statement : Statement) (salt : List ℕ) → SaysAll (Q reply) (committing_locked goes_on opened statement salt)
+    locked-says opened statement salt = ran_locked_taken SaysSo statement salt opened.account (ran goes_on opened) (ran-says opened)
+
+    preparing-says : (stale : SessionTalk) → SaysAll (Q reply) stale → (opened : OpenSession) (look : Look) (statement : Statement) (salt : List ℕ) →
+        SaysAll (Q reply) (preparing_or goes_on stale opened look statement salt)
+    preparing-says stale says opened look statement salt =
+        let made : PreparedOf = record { look = look; statement = statement; salt = salt; actor = opened.account } in
+        prepared_taken SaysSo look statement salt opened.account (committing_or goes_on stale opened made)
+        (λ prepared. ran_taken SaysSo made opened.account stale (ran goes_on opened) (λ back. says) (ran-says opened))
+
+    again-says : (opened : OpenSession) (statement : Statement) (salt : List ℕ) → SaysAll (Q reply) (looking_again goes_on opened statement salt)
+    again-says opened statement salt =
+        let locked : SessionTalk = committing_locked goes_on opened statement salt in
+        renewed_taken SaysSo (who_of opened.account statement) (λ look. preparing_or goes_on locked opened look statement salt)
+        (λ look. preparing-says locked (locked-says opened statement salt) opened look statement salt)
+
+    first-says : (opened : OpenSession) (look : Look) (statement : Statement) (salt : List ℕ) → SaysAll (Q reply) (preparing goes_on false opened look statement salt)
+    first-says opened look statement salt =
+        preparing-says (looking_again goes_on opened statement salt) (again-says opened statement salt) opened look statement salt
+
+    salted-says : (by : Bool) (opened : OpenSession) (look : Look) (statement : Statement) → SaysAll (Q reply) (salted goes_on by opened look statement)
+    salted-says true opened look statement =
+        drawn_taken SaysSo (λ salt. preparing goes_on false opened look statement salt) (λ salt. first-says opened look statement salt)
+    salted-says false opened look statement = first-says opened look statement no_salt
+
+    executing-says : (preparable : Bool) (opened : OpenSession) (statement : Statement) → SaysAll (Q reply) (executing goes_on preparable opened statement)
+    executing-says true opened statement =
+        look_taken SaysSo (who_of opened.account statement) (λ look. salted goes_on (has_password (auth_of statement)) opened look statement)
+        (λ look. salted-says (has_password (auth_of statement)) opened look statement)
+    executing-says false opened statement = ran_plain_taken SaysSo statement opened.account (ran goes_on opened) (ran-says opened)
+
+    stated-says : (through : Bool) (opened : OpenSession) (statement : Statement) → SaysAll (Q reply) (stated goes_on through opened statement)
+    stated-says true opened statement = executing-says (is_preparable statement) opened statement
+    stated-says false opened statement = (kinds.error reply code.Sandboxed, all opened)
+
+    queried-says : (opened : OpenSession) (found : Result Statement ℕ) → SaysAll (Q reply) (queried_for goes_on opened found)
+    queried-says opened (Ok statement) = stated-says (is_let_through opened statement) opened statement
+    queried-says opened (Err place) = (kinds.error reply (code.Syntax place), all opened)
+
+    commanded-says : (found : Result Command ℕ) (opened : OpenSession) → SaysAll (Q reply) (commanded found goes_on opened)
+    commanded-says (Ok Quit) opened = tt
+    commanded-says (Ok Ping) opened = (kinds.ok reply opens, all opened)
+    commanded-says (Ok Reset) opened = (kinds.ok reply opens, all opened)
+    commanded-says (Ok (Query text)) opened = queried-says opened (statement_in text)
+    commanded-says (Ok (Change v)) opened = (kinds.error reply code.UnknownCommand, all opened)
+    commanded-says (Ok (Other first)) opened = (kinds.error reply code.UnknownCommand, all opened)
+    commanded-says (Ok Nothing) opened = (kinds.error reply code.UnknownCommand, all opened)
+    commanded-says (Err at) opened = (kinds.error reply code.UnknownCommand, all opened)
+
+  command-says : (reply : Reply) → Opens (Some reply) → (left : ℕ) (opened : OpenSession) (payload : List ℕ) → SaysAll (Q reply) (next_command left opened payload)
   unfolding next_command heard_by
-  command-says reply opens zero payload = tt
-  command-says reply opens (suc left) payload = commanded-says reply opens (command.read (start payload)) (commands left) (command-says reply opens left)
+  command-says reply opens zero opened payload = tt
+  command-says reply opens (suc left) opened payload =
+      commanded-says reply opens (commands_left left) (λ later. command-says reply opens left later) (command.read (start payload)) (with_left left opened)
 
-  outcome-says : (user : List ℕ) (reply : Reply) → SaysAll (Q reply) (outcome user reply)
+  outcome-says : (a : Attempting) (reply : Reply) → SaysAll (Q reply) (outcome a reply)
   unfolding heard_by
-  outcome-says user (Opened account host) = (kinds.ok (Opened account host) refl, command-says (Opened account host) refl all_commands)
-  outcome-says user (Sandbox account host) = (kinds.ok (Sandbox account host) refl, command-says (Sandbox account host) refl all_commands)
-  outcome-says user (Blocked rule left) = (kinds.error (Blocked rule left) _, tt)
-  outcome-says user (Denied using_password) = (kinds.error (Denied using_password) _, tt)
-  outcome-says user Locked = (kinds.error Locked _, tt)
-  outcome-says user MustChange = (kinds.error MustChange _, tt)
+  outcome-says a (Opened account host) =
+      (kinds.ok (Opened account host) refl, command-says (Opened account host) refl all_commands (opened_on a account host false))
+  outcome-says a (Sandbox account host) =
+      (kinds.ok (Sandbox account host) refl, command-says (Sandbox account host) refl all_commands (opened_on a account host true))
+  outcome-says a (Blocked rule left) = (kinds.error (Blocked rule left) _, tt)
+  outcome-says a (Denied using_password) = (kinds.error (Denied using_password) _, tt)
+  outcome-says a Locked = (kinds.error Locked _, tt)
+  outcome-says a MustChange = (kinds.error MustChange _, tt)
 
   -- of an answer, and of the talk after it
   abbrev SaysOn : Input → SessionTalk → Type 0
   SaysOn given t = ByReply (SaysBoth P Q t) (λ reply. SaysAll (Q reply) t) given
 
   locking-says : (a : Attempting) (evidences : List Evidence) → SaysBoth P Q (locking a evidences)
-  locking-says a evidences = locked_taken SaysOn a.user evidences a.flags (outcome a.user) (outcome-says a.user)
+  locking-says a evidences = locked_taken SaysOn a.user evidences a.flags (outcome a) (outcome-says a)
 
   checking-says : (stale : SessionTalk) → SaysBoth P Q stale → (a : Attempting) (look : Look) (evidences : List Evidence) →
       SaysBoth P Q (checking_or stale a look evidences)
   checking-says stale says a look evidences =
       checked_taken SaysOn look evidences (settling_or stale a (record { look = look; evidences = evidences }))
-      (λ checked. settled_taken SaysOn (record { look = look; evidences = evidences }) a.flags stale (outcome a.user) (λ back. says) (outcome-says a.user))
+      (λ checked. settled_taken SaysOn (record { look = look; evidences = evidences }) a.flags stale (outcome a) (λ back. says) (outcome-says a))
 
   renewing-says : (a : Attempting) (evidences : List Evidence) → SaysBoth P Q (renewing a evidences)
   renewing-says a evidences =

@@ -1,5 +1,5 @@
 -- What `replay` prints for an input.
-use Rattle.std.specs.Prelude.{ℕ, ◌≤◌, ◌<◌, List, [], ◌∷◌, ◌++◌, length, codes, decimal}
+use Rattle.std.specs.Prelude.{◌≢◌, ℕ, ◌≤◌, ◌<◌, List, [], ◌∷◌, ◌++◌, length, codes, decimal}
 use Rattle.script_text.specs.Grammar.{Spells}
 use Rattle.script_text.specs.Reading.{Contents, IsBadLine}
 use Rattle.session_world.specs.Standing.{replay_text}
@@ -26,10 +26,10 @@ IsLegalRun script =
     (lines_among (all_printed (start_of script) script.events))
 
 -- what is printed of each session is a transcript of the bytes that came to it from its client or the script, however the
--- sessions are interleaved and their bytes are cut
+-- sessions are interleaved and their bytes are cut; sessions have numbers from 1 on
 abbrev pub AreTranscripts : Contents → Type 0
 AreTranscripts script =
-    (number : ℕ) →
+    (number : ℕ) → number ≢ 0 →
     IsTranscript number (peer_at ((after_events (start_of script) script.events).world.places number))
     (session_bytes number (start_of script).world (all_doings (start_of script) script.events))
     (lines_for number (all_printed (start_of script) script.events))

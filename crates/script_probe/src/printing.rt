@@ -44,9 +44,15 @@ fn print_sent(rt: &HostRuntime, keyword: &str, session: u32, bytes: &Bytes) -> i
     print_bytes(rt, bytes.as_slice())
 }
 
+fn print_admin(rt: &HostRuntime, text: &Bytes) -> io::Result<()> {
+    print!(rt; "admin")?;
+    print_bytes(rt, text.as_slice())
+}
+
 pub fn print_event(rt: &HostRuntime, event: &Event) -> io::Result<()> {
     match event {
         Event::Clock { reading } => print!(rt; "clock {reading}"),
+        Event::Admin { text } => print_admin(rt, text),
         Event::Open { session } => print!(rt; "open {session}"),
         Event::Client {
             session,
@@ -63,5 +69,6 @@ pub fn print_event(rt: &HostRuntime, event: &Event) -> io::Result<()> {
         Event::Command { session, payload } => print_sent(rt, "command", *session, payload),
         Event::Close { session } => print!(rt; "close {session}"),
         Event::Cut { session } => print!(rt; "cut {session}"),
+        Event::FailKeeper => print!(rt; "fail keeper"),
     }
 }

@@ -1,11 +1,11 @@
 -- A text cut at its first separator.
-use Rattle.std.proofs.Common.{◌≡◌, ℕ, ◌+◌, Bool, true, false, cond, List, [], ◌∷◌, length, take, drop, Some, None, refl, sym, ap, ◌∙◌, arith, eqb}
+use Rattle.std.proofs.Common.{◌≡◌, ℕ, ◌+◌, Bool, true, false, cond, List, [], ◌∷◌, length, take, drop, Option, Some, None, refl, sym, ap, ◌∙◌, arith, eqb}
 use Rattle.std.specs.List.{join_with_byte, position, position_from, position_or_len, slice_split, onto_first}
 use Rattle.std.proofs.lemmas.List.Splits.{join_with_byte-slice_split, slice_split-cons_no, slice_split_first}
 use Rattle.std.proofs.lemmas.Iterator.Adapters.{position_from-zero}
 use Rattle.std.specs.Prelude.{nat_lt}
 use borrow.Author.Tests.{ltb-true}
-use Rattle.script_text.specs.Words.{is_none_left, pair, single, with_text}
+use Rattle.script_text.specs.Words.{all_text, is_none_left, pair, parts_behind, single, with_text}
 
 none-from : (p : ℕ → Bool) (i : ℕ) (xs : List ℕ) → position_from p i xs ≡ None → slice_split p xs ≡ xs ∷ []
 none-from p i [] h = refl
@@ -66,6 +66,15 @@ worded words word text split =
     ap (λ (text : List ℕ). Some (word, text))
     (sym (join_with_byte-slice_split 32 text) ∙ ap (λ (parts : List (List ℕ)). join_with_byte 32 parts) more.2)
     ∙ ap (λ (parts : List (List ℕ)). with_text (word ∷ parts)) (sym more.2) ∙ ap (λ (parts : List (List ℕ)). with_text parts) (sym split)
+
+-- the text behind a space
+pub texted : (text : Option (List ℕ)) → text ≡ all_text (parts_behind 32 text)
+texted None = refl
+texted (Some text) =
+    let more = parted (λ b. eqb b 32) text in
+    ap (λ (text : List ℕ). Some text)
+    (sym (join_with_byte-slice_split 32 text) ∙ ap (λ (parts : List (List ℕ)). join_with_byte 32 parts) more.2)
+    ∙ ap (λ (parts : List (List ℕ)). all_text parts) (sym more.2)
 
 -- behind a separator there is a word
 pub not_none_left : (p : ℕ → Bool) (xs : List ℕ) → is_none_left (slice_split p xs) ≡ false

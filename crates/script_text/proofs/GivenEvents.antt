@@ -1,12 +1,13 @@
 -- What can happen by a line.
 use Rattle.std.proofs.Common.{◌≡◌, ◌≢◌, ℕ, Bool, true, false, cond, List, [], ◌∷◌, Option, Some, None, refl, eqb}
-use Rattle.std.specs.Prelude.{IfSome}
+use Rattle.std.specs.Prelude.{IfSome, codes}
+use Rattle.std.specs.Str.{bytes_eq}
 use Rattle.std.specs.Option.{option_map}
 use Rattle.std.proofs.lemmas.Bool.Decides.{Decides-eqb, not_from_Decides}
 use Rattle.login_client.specs.declared.claims.Secrets.{Secrets}
 use Rattle.script_text.specs.ClientLines.{flags_word, is_client, secrets_of}
-use Rattle.script_text.specs.EventLines.{IsEvent, both, bytes_of, client_if, client_of, count_of, event_by, reading_of, session_of, text_of}
-use Rattle.script_text.specs.Words.{from_one, hex_word, number_word, one_to_three, pair, session_word, single, with_text}
+use Rattle.script_text.specs.EventLines.{IsEvent, both, bytes_of, client_if, client_of, count_of, event_by, fault_of, reading_of, session_of, text_of}
+use Rattle.script_text.specs.Words.{all_text, from_one, hex_word, number_word, one_to_three, pair, session_word, single, with_text}
 use Rattle.script_text.specs.declared.event.Event.{Event}
 use Rattle.script_text.specs.declared.event.Event.TheVariants as event
 use Rattle.script_text.specs.declared.event_line.EventWord.{EventWord}
@@ -61,6 +62,16 @@ read-clock None = tt
 read-clock (Some word) =
     elim (number_word 18446744073709551615 word) as (λ number. IfSome (option_map event.Clock number) IsEvent) [ None ↦ tt | Some n ↦ tt ]
 
+read-admin : (text : Option (List ℕ)) → IfSome (option_map event.Admin text) IsEvent
+read-admin None = tt
+read-admin (Some text) = tt
+
+read-fault : (word : Option (List ℕ)) → IfSome (fault_of word) IsEvent
+unfolding fault_of
+read-fault None = tt
+read-fault (Some word) =
+    elim (bytes_eq word (codes "keeper")) as (λ b. IfSome (cond b (Some event.FailKeeper) None) IsEvent) [ true ↦ tt | false ↦ tt ]
+
 client-whole : (n flags : ℕ) (user : List ℕ) (secrets : Secrets) → n ≢ 0
     → IfSome (cond (is_client flags user secrets) (Some (event.Client n flags user secrets)) None) IsEvent
 client-whole n flags user secrets h =
@@ -87,6 +98,7 @@ read-client (session ∷ flags ∷ user ∷ secrets) =
 -- what a line can give
 pub happens : (word : EventWord) (arguments : List (List ℕ)) → IfSome (event_by word arguments) IsEvent
 happens kind.Clock arguments = read-clock (single arguments)
+happens kind.Admin arguments = read-admin (all_text arguments)
 happens kind.Open arguments = alone event.Open (λ n h. h) (single arguments)
 happens kind.Client arguments = read-client arguments
 happens kind.Bytes arguments = with-bytes event.FromPeer (λ n x h. h) (pair arguments)
@@ -98,3 +110,4 @@ happens kind.Say arguments = with-words event.Say (λ n x h. h) (with_text argum
 happens kind.Command arguments = with-bytes event.Command (λ n x h. h) (pair arguments)
 happens kind.Close arguments = alone event.Close (λ n h. h) (single arguments)
 happens kind.Cut arguments = alone event.Cut (λ n h. h) (single arguments)
+happens kind.Fail arguments = read-fault (single arguments)

@@ -3,7 +3,7 @@ use Rattle.std.specs.Prelude.{◌≢◌, ℕ, List, ◌∷◌, Option, Some, Non
 use Rattle.std.specs.Str.{bytes_eq}
 use Rattle.login_client.specs.declared.claims.Secrets.{Secrets}
 use Rattle.script_text.specs.ClientLines.{IsClient, flags_word, is_client, secrets_of}
-use Rattle.script_text.specs.Words.{hex_word, number_word, one_to_three, pair, session_word, single, with_text}
+use Rattle.script_text.specs.Words.{all_text, hex_word, number_word, one_to_three, pair, session_word, single, with_text}
 use Rattle.script_text.specs.declared.event.Event.{Event}
 use Rattle.script_text.specs.declared.event.Event.TheVariants as event
 use Rattle.script_text.specs.declared.event_line.EventWord.{EventWord}
@@ -13,6 +13,7 @@ use Rattle.script_text.specs.declared.event_line.EventWord.TheVariants as kind
 unfoldable pub event_word_of : List ℕ → Option EventWord
 event_word_of word =
     if bytes_eq word (codes "clock") then Some kind.Clock
+    else if bytes_eq word (codes "admin") then Some kind.Admin
     else if bytes_eq word (codes "open") then Some kind.Open
     else if bytes_eq word (codes "client") then Some kind.Client
     else if bytes_eq word (codes "bytes") then Some kind.Bytes
@@ -24,12 +25,18 @@ event_word_of word =
     else if bytes_eq word (codes "command") then Some kind.Command
     else if bytes_eq word (codes "close") then Some kind.Close
     else if bytes_eq word (codes "cut") then Some kind.Cut
+    else if bytes_eq word (codes "fail") then Some kind.Fail
     else None
 
 -- N below 2^64
 abbrev pub reading_of : Option (List ℕ) → Option ℕ
 reading_of None = None
 reading_of (Some word) = number_word 18446744073709551615 word
+
+-- `keeper`: what fails
+unfoldable pub fault_of : Option (List ℕ) → Option Event
+fault_of None = None
+fault_of (Some word) = if bytes_eq word (codes "keeper") then Some event.FailKeeper else None
 
 -- S
 abbrev pub session_of : Option (List ℕ) → Option ℕ
@@ -70,6 +77,7 @@ client_of _ = None
 -- what happens by a line's first word and the words behind it
 abbrev pub event_by : EventWord → List (List ℕ) → Option Event
 event_by kind.Clock arguments = option_map event.Clock (reading_of (single arguments))
+event_by kind.Admin arguments = option_map event.Admin (all_text arguments)
 event_by kind.Open arguments = option_map event.Open (session_of (single arguments))
 event_by kind.Client arguments = client_of arguments
 event_by kind.Bytes arguments = option_map (λ s. event.FromPeer s.0 s.1) (bytes_of (pair arguments))
@@ -81,10 +89,12 @@ event_by kind.Say arguments = option_map (λ s. event.Say s.0 s.1) (text_of (wit
 event_by kind.Command arguments = option_map (λ s. event.Command s.0 s.1) (bytes_of (pair arguments))
 event_by kind.Close arguments = option_map event.Close (session_of (single arguments))
 event_by kind.Cut arguments = option_map event.Cut (session_of (single arguments))
+event_by kind.Fail arguments = fault_of (single arguments)
 
--- An event that a line can give: its session has a number from 1 on, and a client can log in with what is said.
+-- An event that a line can give: a session has a number from 1 on, and a client can log in with what is said.
 abbrev pub IsEvent : Event → Type 0
 IsEvent (event.Clock reading) = Unit {0}
+IsEvent (event.Admin text) = Unit {0}
 IsEvent (event.Open session) = session ≢ 0
 IsEvent (event.Client session flags user secrets) = (session ≢ 0) × IsClient flags user secrets
 IsEvent (event.FromPeer session bytes) = session ≢ 0
@@ -96,3 +106,4 @@ IsEvent (event.Say session text) = session ≢ 0
 IsEvent (event.Command session payload) = session ≢ 0
 IsEvent (event.Close session) = session ≢ 0
 IsEvent (event.Cut session) = session ≢ 0
+IsEvent event.FailKeeper = Unit {0}

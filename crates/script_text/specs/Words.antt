@@ -41,6 +41,11 @@ one_to_three (first ∷ second ∷ []) = Some (first, Some second, None)
 one_to_three (first ∷ second ∷ third ∷ []) = Some (first, Some second, Some third)
 one_to_three _ = None
 
+-- the text behind a space
+abbrev pub all_text : List (List ℕ) → Option (List ℕ)
+all_text [] = None
+all_text (word ∷ words) = Some (join_with_byte 32 (word ∷ words))
+
 -- one word, and the text behind its space
 abbrev pub with_text : List (List ℕ) → Option (List ℕ × List ℕ)
 with_text (first ∷ word ∷ words) = Some (first, join_with_byte 32 (word ∷ words))

@@ -20,6 +20,10 @@ pub enum Event {
     Clock {
         reading: u64,
     },
+    /// The account with the number 1 asks for what this text says.
+    Admin {
+        text: Bytes,
+    },
     /// A session begins whose peer is the script.
     Open {
         session: u32,
@@ -72,4 +76,6 @@ pub enum Event {
     Cut {
         session: u32,
     },
+    /// The keeper of the accounts fails at its next call.
+    FailKeeper,
 }

@@ -1,7 +1,7 @@
 //! A line of a script by which something happens.
 
-ghost use Rattle.script_text.specs.EventLines.{bytes_of, count_of, event_by, event_word_of, reading_of, session_of, text_of};
-ghost use Rattle.script_text.specs.Words.{pair, single, with_text};
+ghost use Rattle.script_text.specs.EventLines.{bytes_of, count_of, event_by, event_word_of, fault_of, reading_of, session_of, text_of};
+ghost use Rattle.script_text.specs.Words.{all_text, pair, single, with_text};
 ghost use Rattle.std.specs.Prelude.{◌≡◌, IfOk, option_map};
 
 use crate::client_line::read_client;
@@ -14,6 +14,7 @@ use std::alloc::Global;
 #[derive(Clone, Copy, Debug, PartialEq, Eq)]
 pub enum EventWord {
     Clock,
+    Admin,
     Open,
     Client,
     Bytes,
@@ -25,6 +26,7 @@ pub enum EventWord {
     Command,
     Close,
     Cut,
+    Fail,
 }
 
 /// The word that such a line begins with.
@@ -34,6 +36,8 @@ pub fn event_word_of(word: &[u8]) -> Option<EventWord>
 {
     if word == b"clock".as_slice() {
         Some(EventWord::Clock)
+    } else if word == b"admin".as_slice() {
+        Some(EventWord::Admin)
     } else if word == b"open".as_slice() {
         Some(EventWord::Open)
     } else if word == b"client".as_slice() {
@@ -56,6 +60,8 @@ pub fn event_word_of(word: &[u8]) -> Option<EventWord>
         Some(EventWord::Close)
     } else if word == b"cut".as_slice() {
         Some(EventWord::Cut)
+    } else if word == b"fail".as_slice() {
+        Some(EventWord::Fail)
     } else {
         None
     }
@@ -66,6 +72,28 @@ fn read_clock(arguments: &Words) -> Option<u64>
     ensures { result ≡ reading_of (single arguments.now) }
 {
     number_of(arguments.one()?, u64::MAX)
+}
+
+/// The text of a line `admin`.
+fn read_admin(alloc: Global, arguments: &Words) -> Result<Option<Bytes>, Memory>
+    ensures { IfOk result (λ found. found ≡ all_text arguments.now) }
+{
+    match arguments.text() {
+        None => Ok(None),
+        Some(text) => Ok(Some(Bytes::copy(alloc, text)?)),
+    }
+}
+
+/// What fails by a line `fail`.
+#[tactic(auto, unfolding(crate::specs::EventLines::fault_of))]
+fn read_fault(arguments: &Words) -> Option<Event>
+    ensures { result ≡ fault_of (single arguments.now) }
+{
+    if arguments.one()? == b"keeper".as_slice() {
+        Some(Event::FailKeeper)
+    } else {
+        None
+    }
 }
 
 /// The session of a line that names one and nothing else.
@@ -130,6 +158,7 @@ pub fn read_event(
 {
     match word {
         EventWord::Clock => Ok(read_clock(arguments).map(|reading| Event::Clock { reading })),
+        EventWord::Admin => Ok(read_admin(alloc, arguments)?.map(|text| Event::Admin { text })),
         EventWord::Open => Ok(read_session(arguments).map(|session| Event::Open { session })),
         EventWord::Client => read_client(alloc, arguments),
         EventWord::Bytes => Ok(read_bytes(alloc, arguments)?.map(|(
@@ -156,5 +185,6 @@ pub fn read_event(
         )| Event::Command { session, payload })),
         EventWord::Close => Ok(read_session(arguments).map(|session| Event::Close { session })),
         EventWord::Cut => Ok(read_session(arguments).map(|session| Event::Cut { session })),
+        EventWord::Fail => Ok(read_fault(arguments)),
     }
 }

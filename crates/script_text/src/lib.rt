@@ -12,6 +12,7 @@
 //! set history 3
 //!
 //! clock 86400
+//! admin CREATE USER 'bob'@'localhost' IDENTIFIED BY 'word'
 //! open 1
 //! bytes 1 0100000000
 //! run 1
@@ -20,6 +21,7 @@
 //! run 2
 //! say 2 FLUSH PRIVILEGES
 //! run 2
+//! fail keeper
 //! end
 //! ```
 //!
@@ -39,8 +41,6 @@ pub mod event;
 mod event_line;
 mod line;
 mod progress;
-#[cfg(test)]
-mod tests;
 mod words;
 
 pub use event::{Event, Setup};

@@ -49,7 +49,7 @@ impl<'a> Model for Words<'a> {
 }
 
 impl<'a> Words<'a> {
-    ghost use Rattle.script_text.specs.Words.{is_none_left, one_to_three, pair, single, with_text, words};
+    ghost use Rattle.script_text.specs.Words.{all_text, is_none_left, one_to_three, pair, single, with_text, words};
     ghost use Rattle.std.specs.Prelude.{◌≡◌, ◌∷◌, [], MatchOption, option_map};
     ghost use Rattle.std.specs.Option.{option_copied};
 
@@ -131,6 +131,14 @@ impl<'a> Words<'a> {
         } else {
             None
         }
+    }
+
+    /// The text behind the space, if one stands there.
+    #[tactic(auto, using(crate::proofs::Cuts::texted))]
+    pub fn text(&self) -> Option<&'a [u8]>
+        ensures { option_copied result ≡ all_text self.now }
+    {
+        self.rest
     }
 
     /// The next word and the text behind its space, if one stands there.

@@ -64,6 +64,21 @@ EVENT_LINES = [
     b"clock 1a",
     b"clock 18446744073709551616",
     b"clock 100000000000000000000000000000000000000000",
+    b"admin",
+    b"admin\tFLUSH PRIVILEGES",
+    b"Admin FLUSH PRIVILEGES",
+    b"admins FLUSH PRIVILEGES",
+    b" admin FLUSH PRIVILEGES",
+    b"fail",
+    b"fail ",
+    b"fail  keeper",
+    b"fail keeper ",
+    b"fail keeper 1",
+    b"fail keepers",
+    b"fail Keeper",
+    b"fail\tkeeper",
+    b"Fail keeper",
+    b"failkeeper",
     b"open",
     b"open 0",
     b"open 01",
@@ -98,7 +113,6 @@ OTHER_LINES = [
     b" ",
     b"\t",
     b" # a comment begins a line",
-    b"admin FLUSH PRIVILEGES",
     b"accept 61 62 63",
     b"Client 1 1028a200 61 62",
     b"clients 1 1028a200 61 62",
@@ -108,7 +122,6 @@ OTHER_LINES = [
     b"says 1 x",
     b"SAY 1 x",
     b"commands 1 00",
-    b"fail keeper",
     b"fail verifier",
 ]
 
@@ -260,6 +273,12 @@ TEXTS = [
     (b"account 61 62\naccount 61 62\nend\n", 2),
     (b"account 6a 62\n#\naccount 62 62\naccount 6A -\nend\n", 4),
     (b"account 66 " + b"7" * 514 + b"\nend\n", 1),
+    (b"admin x\naccount 61 62\nend\n", 2),
+    (b"fail keeper\nset reuse 1\nend\n", 2),
+    (b"end\nadmin x\n", 2),
+    (b"end\n\nfail keeper\n", 3),
+    (b"open 1\nadmin x\nfail keeper\n", 4),
+    (b"admin end", 1),
 ]
 
 USUAL = 'lifetime 0 disconnect true history 0 reuse 0'
@@ -287,6 +306,19 @@ SCRIPTS = [
     (b"say 1 \nsay 2  x\nsay 3 #a  b \r\x00\xff\nsay 4  \ncommand 1 -\ncommand 5 03aBFf\nend\n",
      USUAL + '; say 1 -; say 2 2078; say 3 2361202062200d00ff'
      + '; say 4 20; command 1 -; command 5 03abff'),
+    (b"admin FLUSH PRIVILEGES\nadmin \nadmin  a  b \nfail keeper\nadmin #\r\x00\xff\nfail keeper\nadmin end\nend\n",
+     USUAL + '; admin 464c5553482050524956494c45474553; admin -; admin 2061202062' + '20; fail keeper; '
+     'admin 230d00ff; fail keeper; admin 656e64'),
+    (b"account 61 62\nadmin ALTER USER USER() DISCARD OLD PASSWORD\nopen 1\nend\n",
+     'account 61 62; ' + USUAL + '; admin ' + b"ALTER USER USER() DISCARD OLD PASSWORD".hex() + '; open 1'),
+]
+
+
+# Texts with so many lines `account` before them, whose users are the five digits of 0, 1, .., and the answer: the
+# number of accounts and the last user, or the line at which the whole is refused.
+MANY = [
+    (20000, b"end\n", 'accounts 20000 ' + b"19999".hex()),
+    (20000, b"account 3030303037 61\nend\n", 'line 20001'),
 ]
 
 
@@ -318,6 +350,8 @@ def main():
     wanted = sys.argv[1]
     for text, said in cases():
         print(text.hex() if wanted == 'stdin' else said)
+    for count, last, said in MANY:
+        print('%d %s' % (count, last.hex()) if wanted == 'stdin' else said)
 
 
 main()

@@ -51,7 +51,7 @@ fn is_settled(input: &Input) -> bool
     matches!(input, Input::Settled(_))
 }
 
-fn is_look(input: &Input) -> bool
+pub fn is_look(input: &Input) -> bool
     ensures { result ≡ turn.is_look input.now }
 {
     match input {
@@ -60,7 +60,7 @@ fn is_look(input: &Input) -> bool
     }
 }
 
-fn is_draw(input: &Input) -> bool
+pub fn is_draw(input: &Input) -> bool
     ensures { result ≡ turn.is_draw input.now }
 {
     match input {
@@ -94,6 +94,7 @@ impl Phase {
             Phase::Renewing { .. } => is_look(input),
             Phase::Locking { .. } => is_settled(input),
             Phase::Commanding { .. } => is_read(input),
+            Phase::Executing { stage, .. } => stage.is_answered_by(input),
             Phase::Over(SessionEnd::Memory) => true,
             Phase::Over(_) => false,
         }
@@ -109,12 +110,13 @@ fn id_after(id: u8) -> u8
 
 impl Phase {
     /// The sequence id that is wanted of the packet that is waited for: commands begin anew.
-    #[tactic(auto, unfolding(crate::specs::Standing::talk_of, session_talk::specs::Turns::wanted_by))]
+    #[tactic(auto, using(crate::proofs::Found::next_of_stage), unfolding(crate::specs::Standing::talk_of, session_talk::specs::Turns::wanted_by))]
     pub fn wanted(&self, next: u8) -> u8
         ensures { result ≡ turn.wanted_by next (talk_of self.now) }
     {
         match self {
             Phase::Commanding { .. } => 0,
+            Phase::Executing { .. } => next,
             _ => next,
         }
     }

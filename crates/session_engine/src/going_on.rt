@@ -9,6 +9,7 @@ ghost use Rattle.session_talk.specs.declared.ends.SessionEnd.TheVariants as end;
 ghost use Rattle.std.specs.Prelude.{◌≡◌, IfOk, IsErr, IsTrue};
 
 use crate::commanding::take_command;
+use crate::executing::go_on_from;
 use crate::logins::{answer, claim_on, greet, respond, switch_to, take_password};
 use crate::phases::Phase;
 use crate::settling::{check, finish, go_on_stale, settle};
@@ -16,7 +17,7 @@ use crate::steps::{Step, fault, over};
 use factor_chain::{Checked, Evidences, Look};
 use ghost_value::GhostValue;
 use lg_base::Memory;
-use session_talk::{Attempting, Claim, Input, SessionEnd};
+use session_talk::{Attempting, Claim, Input, OpenSession, SessionEnd};
 use std::alloc::Global;
 
 /// A new session begins.
@@ -143,7 +144,7 @@ fn on_settling(
 {
     match input {
         Input::Stale(evidences) => go_on_stale(alloc, attempt, again, evidences),
-        Input::Settled(reply) => finish(alloc, attempt.user, reply),
+        Input::Settled(reply) => finish(alloc, attempt, reply),
         _ => Err(Memory),
     }
 }
@@ -175,18 +176,18 @@ fn on_locking(
     ensures { IfOk result (λ step. Stands step (heard (login.locking attempt evidences.value) input)) }
 {
     match input {
-        Input::Settled(reply) => finish(alloc, attempt.user, reply),
+        Input::Settled(reply) => finish(alloc, attempt, reply),
         _ => Err(Memory),
     }
 }
 
 /// A command was read, or reading ended.
 #[tactic(auto, unfolding(session_talk::specs::Turns::heard, session_talk::specs::Logins::heard_by))]
-fn on_commanding(alloc: Global, left: u32, input: Input) -> Result<Step, Memory>
-    ensures { IfOk result (λ step. Stands step (heard (login.commands left) input)) }
+fn on_commanding(alloc: Global, opened: OpenSession, input: Input) -> Result<Step, Memory>
+    ensures { IfOk result (λ step. Stands step (heard (login.commands opened) input)) }
 {
     match input {
-        Input::Packet(packet) => take_command(alloc, left, packet.payload.as_slice()),
+        Input::Packet(packet) => take_command(alloc, opened, packet.payload.as_slice()),
         Input::Frame(found) => fault(alloc, found),
         Input::End { cut } => Ok(over(alloc, SessionEnd::PeerClosed { cut })),
         Input::LinkFailed => Ok(over(alloc, SessionEnd::LinkFault)),
@@ -225,7 +226,8 @@ pub fn go_on(alloc: Global, phase: Phase, input: Input) -> Result<Step, Memory>
         } => on_settling(alloc, attempt, again, checked, input),
         Phase::Renewing { attempt, evidences } => on_renewing(alloc, attempt, evidences, input),
         Phase::Locking { attempt, evidences } => on_locking(alloc, attempt, evidences, input),
-        Phase::Commanding { left } => on_commanding(alloc, left, input),
+        Phase::Commanding { opened } => on_commanding(alloc, opened, input),
+        Phase::Executing { opened, stage } => go_on_from(alloc, opened, stage, input),
         Phase::Over(_) => Err(Memory),
     }
 }

@@ -1,8 +1,9 @@
 //! Where a session stands: what it waits for, and what it needs to go on.
 
+use crate::stages::Stage;
 use factor_chain::{Checked, Evidences, Look};
 use ghost_value::GhostValue;
-use session_talk::{Attempting, Claim, SessionEnd};
+use session_talk::{Attempting, Claim, OpenSession, SessionEnd};
 
 /// What a session waits for. What it asked about is kept as values that only contracts read.
 #[derive(Drop)]
@@ -59,9 +60,14 @@ pub enum Phase {
         attempt: Attempting,
         evidences: GhostValue<Evidences>,
     },
-    /// A command; so many may still be done.
+    /// A command of an open session.
     Commanding {
-        left: u32,
+        opened: OpenSession,
+    },
+    /// A statement of an open session.
+    Executing {
+        opened: OpenSession,
+        stage: Stage,
     },
     /// Nothing more: the session has ended.
     Over(SessionEnd),

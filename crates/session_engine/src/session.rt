@@ -66,6 +66,8 @@ impl Session {
         let first = self.phase.first_id(self.next, &input);
         let phase = mem::replace(&mut self.phase, Phase::Over(SessionEnd::Memory));
         if had_no_memory(&input) {
+            mem::drop(input);
+            mem::drop(phase);
             return Err(Memory);
         }
         let Step { send, ask, phase } = go_on(self.alloc, phase, input)?;

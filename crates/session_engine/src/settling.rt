@@ -2,21 +2,21 @@
 
 ghost use Rattle.session_engine.specs.Standing.{Stands};
 ghost use Rattle.session_talk.specs.Logins as login;
-ghost use Rattle.session_talk.specs.Logins.{after_stale, all_commands, clear_evidence, commands, is_blank, refusal_of, without_zero};
+ghost use Rattle.session_talk.specs.Logins.{after_stale, all_commands, decided, opened_on};
 ghost use Rattle.session_talk.specs.Texts.{days_of};
 ghost use Rattle.interaction.specs.Talk.{Says};
 ghost use Rattle.session_talk.specs.Turns.{question, rest, said};
 ghost use Rattle.std.specs.Prelude.{◌≡◌, ◌∷◌, [], IfOk, false};
 
 use crate::notes::{note_checked, note_evidences, note_look};
-use crate::payloads::ok_payload;
 use crate::phases::Phase;
+use crate::statements::agree;
 use crate::steps::{Step, close, quiet, saying};
 use account_history::{Reply, Who};
 use factor_chain::{Checked, Evidence, Evidences, Look};
-use lg_base::{Bytes, Code, Memory};
+use lg_base::{Bytes, Code, Host, Memory, Name};
 use login_lock::LockTime;
-use session_talk::{Ask, Attempting, SessionEnd};
+use session_talk::{Ask, Attempting, OpenSession, SessionEnd};
 use std::alloc::Global;
 
 /// How many commands of a session are done.
@@ -32,44 +32,49 @@ fn days_of_lock(time: LockTime) -> Option<u16>
     }
 }
 
-/// The error that names the rule by which an attempt of a user was refused.
-fn refusal(user: Bytes, reply: Reply) -> Option<Code>
-    ensures { result ≡ refusal_of user reply }
+/// What a session knows of itself that an attempt opens on an account.
+fn open_on(attempt: Attempting, account: u64, host: Host, sandbox: bool) -> OpenSession
+    ensures { result ≡ opened_on attempt account host sandbox }
+{
+    let Attempting { user, flags } = attempt;
+    OpenSession {
+        account,
+        name: Name { user, host },
+        sandbox,
+        flags,
+        left: ALL_COMMANDS,
+    }
+}
+
+/// The session that a reply opens, or the error that names the rule by which the attempt is refused.
+fn decide(attempt: Attempting, reply: Reply) -> Result<OpenSession, Code>
+    ensures { result ≡ decided attempt reply }
 {
     match reply {
-        Reply::Opened { .. } => None,
-        Reply::Sandbox { .. } => None,
-        Reply::Blocked { rule, left } => Some(Code::Blocked {
-            user,
+        Reply::Opened { account, host } => Ok(open_on(attempt, account, host, false)),
+        Reply::Sandbox { account, host } => Ok(open_on(attempt, account, host, true)),
+        Reply::Blocked { rule, left } => Err(Code::Blocked {
+            user: attempt.user,
             days: days_of_lock(rule.time),
             left,
             limit: rule.attempts,
         }),
-        Reply::Denied { using_password } => Some(Code::Denied {
-            user,
+        Reply::Denied { using_password } => Err(Code::Denied {
+            user: attempt.user,
             using_password,
         }),
-        Reply::Locked => Some(Code::Locked { user }),
-        Reply::MustChange => Some(Code::MustChange),
+        Reply::Locked => Err(Code::Locked { user: attempt.user }),
+        Reply::MustChange => Err(Code::MustChange),
     }
 }
 
 /// The session opens, or the refusal is told.
-#[tactic(auto, unfolding(crate::specs::Standing::talk_of, session_talk::specs::Turns::question, session_talk::specs::Turns::rest, session_talk::specs::Turns::said))]
-pub fn finish(alloc: Global, user: Bytes, reply: Reply) -> Result<Step, Memory>
-    ensures { IfOk result (λ step. Stands step (login.outcome user reply)) }
+pub fn finish(alloc: Global, attempt: Attempting, reply: Reply) -> Result<Step, Memory>
+    ensures { IfOk result (λ step. Stands step (login.outcome attempt reply)) }
 {
-    match refusal(user, reply) {
-        None => {
-            let payload = ok_payload(alloc)?;
-            saying(
-                alloc,
-                payload,
-                None,
-                Phase::Commanding { left: ALL_COMMANDS },
-            )
-        }
-        Some(code) => {
+    match decide(attempt, reply) {
+        Ok(opened) => agree(alloc, opened),
+        Err(code) => {
             let how = SessionEnd::Refused {
                 number: code.number(),
             };

@@ -11,6 +11,7 @@ use lg_base::{Bytes, Code, Items, Memory};
 use packet_frame::FrameFault;
 use session_talk::{Ask, SessionEnd};
 use std::alloc::Global;
+use std::mem;
 
 /// What a session does next. Where `ask` is None, it waits for a packet.
 #[derive(Drop)]
@@ -39,9 +40,23 @@ pub fn saying(alloc: Global, payload: Bytes, ask: Option<Ask>, phase: Phase) -> 
     ensures ask { IfOk result (λ step. step.ask ≡ ask) }
     ensures phase { IfOk result (λ step. step.phase ≡ phase) }
 {
+    match one_payload(alloc, payload) {
+        Ok(send) => Ok(Step { send, ask, phase }),
+        Err(fault) => {
+            mem::drop(ask);
+            mem::drop(phase);
+            Err(fault)
+        }
+    }
+}
+
+/// A list of one payload.
+fn one_payload(alloc: Global, payload: Bytes) -> Result<Items<Bytes>, Memory>
+    ensures { IfOk result (λ send. send ≡ payload ∷ []) }
+{
     let mut send = Items::new(alloc);
     send.push(payload)?;
-    Ok(Step { send, ask, phase })
+    Ok(send)
 }
 
 /// The session ends, and nothing is sent.

@@ -18,6 +18,8 @@ fits next t a given e f = what_fits_is_asked next t given (subst (λ (b : Ask). 
 pub plain_fits : (a : Ask) (given : Input) → gives_back given ≡ false → IsFitting (Own a) given
 plain_fits (ask.Check look evidences) (input.Checked checked) e = absurd (cc)
 plain_fits (ask.Settle checked flags) (input.Stale evidences) e = absurd (cc)
+plain_fits (ask.Prepare look statement salt actor) (input.Prepared prepared) e = absurd (cc)
+plain_fits (ask.Commit prepared actor) (input.StaleStatement statement) e = absurd (cc)
 plain_fits a given e = tt
 
 -- nor is it other than what any talk asked about

@@ -7,4 +7,6 @@ use Rattle.session_talk.specs.declared.inputs.Input.TheVariants as input
 abbrev pub gives_back : Input → Bool
 gives_back (input.Checked checked) = true
 gives_back (input.Stale evidences) = true
+gives_back (input.Prepared prepared) = true
+gives_back (input.StaleStatement statement) = true
 gives_back _ = false

@@ -57,7 +57,10 @@ fn stale(ask: Ask) -> Option<Input>
 fn is_plain(input: &Input) -> bool
     ensures { result ≡ not (gives_back input.now) }
 {
-    !matches!(input, Input::Checked(_) | Input::Stale(_))
+    !matches!(
+        input,
+        Input::Checked(_) | Input::Stale(_) | Input::Prepared(_) | Input::StaleStatement(_)
+    )
 }
 
 /// An input of the other kinds.

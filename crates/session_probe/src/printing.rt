@@ -99,6 +99,10 @@ fn print_ask(rt: &HostRuntime, ask: &Ask) -> io::Result<()> {
             print_hex(rt, user.as_slice())?;
             print_evidences(rt, evidences)
         }
+        Ask::Prepare { .. } => print!(rt; "prepare"),
+        Ask::Commit { .. } => print!(rt; "commit"),
+        Ask::CommitLocked { .. } => print!(rt; "commit locked"),
+        Ask::CommitPlain { .. } => print!(rt; "commit plain"),
         Ask::Ended(end) => print_end(rt, *end),
     }
 }

@@ -21,6 +21,11 @@ own_answer (Own (ask.Check look evidences)) (input.Checked checked) is = (refl, 
 own_answer (Own (ask.Settle checked flags)) (input.Stale evidences) is = (refl, refl)
 own_answer (Own (ask.Settle checked flags)) (input.Settled reply) is = (refl, refl)
 own_answer (Own (ask.SettleLocked user evidences flags)) (input.Settled reply) is = (refl, refl)
+own_answer (Own (ask.Prepare look statement salt actor)) (input.Prepared prepared) is = (refl, refl)
+own_answer (Own (ask.Commit prepared actor)) (input.StaleStatement statement) is = (refl, refl)
+own_answer (Own (ask.Commit prepared actor)) (input.Ran reply) is = (refl, refl)
+own_answer (Own (ask.CommitLocked statement salt actor)) (input.Ran reply) is = (refl, refl)
+own_answer (Own (ask.CommitPlain statement actor)) (input.Ran reply) is = (refl, refl)
 own_answer _ _ is = absurd (untrue is)
 
 pub asks_are_answered : AsksAreAnswered

@@ -1,5 +1,5 @@
 -- Each conversation is the beginning of a session.
-use Rattle.std.proofs.Common.{◌≡◌, ◌≢◌, refl, ap, sym, subst, inl, inr, ℕ, zero, suc, Bool, true, false, List, [], ◌∷◌, ◌++◌, Option, Some, None, Result, Ok}
+use Rattle.std.proofs.Common.{◌≡◌, ◌≢◌, refl, ap, sym, subst, inl, inr, ℕ, zero, suc, Bool, true, false, List, [], ◌∷◌, ◌++◌, Result, Ok, Err}
 use Rattle.std.proofs.lemmas.Slice.Eq.{bytes_eq-Decides}
 use Rattle.lg_base.specs.declared.errors.Code.{Code}
 use Rattle.lg_base.specs.Errors.{number_of}
@@ -17,33 +17,34 @@ use Rattle.interaction.specs.Talk.{Over}
 use Rattle.session_talk.specs.declared.attempts.Attempting.{Attempting}
 use Rattle.session_talk.specs.declared.attempts.Claim.{Claim}
 use Rattle.session_talk.specs.declared.ends.SessionEnd.TheVariants as end
+use Rattle.session_talk.specs.declared.open_session.OpenSession.{OpenSession}
 use Rattle.session_talk.specs.Conversation.{Conversation, Goes, Move, Sent, Exchange, Named, Switched, IsExchange, exchange_moves, nonce_in, answer_in, Proof, Blank, Answered, Known, Clear, IsBlank, IsProof, proof_moves, evidence_in, Settling, AtOnce, Once, Twice, settling_moves, last_payload}
-use Rattle.session_talk.specs.Logins.{all_commands, answer, answered, answering, attempt_of, caching, claim_of, claimed, commands, heard_by, is_blank, is_named, method_of, proved, proving, refusal_of, responded, session}
+use Rattle.session_talk.specs.Logins.{answer, answered, answering, attempt_of, caching, claim_of, claimed, commands, decided, heard_by, is_blank, is_named, method_of, proved, proving, responded, session}
 use Rattle.session_talk.specs.Talk.{SessionTalk, on_checked, on_drawn, on_locked, on_look, on_settled, on_start}
 use Rattle.session_talk.specs.Texts.{method_name}
 
 -- where a session stands after the reply
-after_of : Option Code → SessionTalk
-after_of None = commands all_commands
-after_of (Some error) = Over (end.Refused (number_of error))
+after_of : Result OpenSession Code → SessionTalk
+after_of (Ok opened) = commands opened
+after_of (Err error) = Over (end.Refused (number_of error))
 
 -- what is told of a reply
-told : (o : Option Code) → Goes (answered o) (Sent (last_payload o) ∷ []) (after_of o)
+told : (found : Result OpenSession Code) → Goes (answered found) (Sent (last_payload found) ∷ []) (after_of found)
 unfolding after_of
-told None = (refl, refl)
-told (Some error) = (refl, refl)
+told (Ok opened) = (refl, refl)
+told (Err error) = (refl, refl)
 
 -- the moves from the settling on
 abbrev pub last_moves : Attempting → Look → Evidence → Settling → Reply → List Move
 last_moves a look given settling reply =
-    settling_moves a.user look (given ∷ []) a.flags settling reply ++ Sent (last_payload (refusal_of a.user reply)) ∷ []
+    settling_moves a.user look (given ∷ []) a.flags settling reply ++ Sent (last_payload (decided a reply)) ∷ []
 
 settles : (a : Attempting) (look : Look) (given : Evidence) (settling : Settling) (reply : Reply) →
-    Goes (proved a look given) (last_moves a look given settling reply) (after_of (refusal_of a.user reply))
+    Goes (proved a look given) (last_moves a look given settling reply) (after_of (decided a reply))
 unfolding on_look on_checked on_settled on_locked
-settles a look given AtOnce reply = (refl, refl, refl, told (refusal_of a.user reply))
-settles a look given (Once again) reply = (refl, (refl, refl, refl, told (refusal_of a.user reply)))
-settles a look given (Twice again) reply = (refl, (refl, refl, refl, told (refusal_of a.user reply)))
+settles a look given AtOnce reply = (refl, refl, refl, told (decided a reply))
+settles a look given (Once again) reply = (refl, (refl, refl, refl, told (decided a reply)))
+settles a look given (Twice again) reply = (refl, (refl, refl, refl, told (decided a reply)))
 
 is_blank-true : (bytes : List ℕ) → IsBlank bytes → is_blank bytes ≡ true
 is_blank-true bytes (inl e) = ap is_blank e
@@ -70,7 +71,7 @@ knows a look nonce bytes moves after known e goes = subst (λ (b : Bool). Goes (
 
 -- the answer to a nonce, and all that follows it
 answers_on : (a : Attempting) (look : Look) (nonce bytes : List ℕ) (proof : Proof) (settling : Settling) (reply : Reply) → IsProof look nonce bytes proof →
-    Goes (answer a look nonce bytes) (proof_moves proof ++ last_moves a look (evidence_in nonce bytes proof) settling reply) (after_of (refusal_of a.user reply))
+    Goes (answer a look nonce bytes) (proof_moves proof ++ last_moves a look (evidence_in nonce bytes proof) settling reply) (after_of (decided a reply))
 unfolding heard_by
 answers_on a look nonce bytes Blank settling reply is =
     answers a look nonce bytes _ _ true (is_blank-true bytes is) (settles a look _ settling reply)
@@ -100,7 +101,7 @@ claims : (nonce : List ℕ) (said : Response) (look : Look) (exchange : Exchange
     Goes (claimed (attempt_of said) (claim_of nonce said) look (is_named (claim_of nonce said) look))
     (exchange_moves look exchange ++ (proof_moves proof
     ++ last_moves (attempt_of said) look (evidence_in (nonce_in nonce exchange) (answer_in said exchange) proof) settling reply))
-    (after_of (refusal_of said.user reply))
+    (after_of (decided (attempt_of said) reply))
 unfolding heard_by on_drawn
 claims nonce said look Named proof settling reply is_exchange is_proof =
     names (attempt_of said) (claim_of nonce said) look _ _ true (is_named-true (claim_of nonce said) look is_exchange)
@@ -118,8 +119,8 @@ responds nonce payload said moves after spelled goes =
 pub each_goes : (id : ℕ) (moves : List Move) (reply : Reply) → Conversation id moves reply → (after : SessionTalk) × Goes (session id) moves after
 unfolding heard_by on_start on_look
 each_goes id moves reply c = (
-  after_of (refusal_of c.said.user reply),
-  subst (λ (ms : List Move). Goes (session id) ms (after_of (refusal_of c.said.user reply))) (sym c.laid_out) (
+  after_of (decided (attempt_of c.said) reply),
+  subst (λ (ms : List Move). Goes (session id) ms (after_of (decided (attempt_of c.said) reply))) (sym c.laid_out) (
     refl,
     responds c.nonce c.payload c.said _ _ c.spelled
         (refl, claims c.nonce c.said c.look c.exchange c.proof c.settling reply c.exchanged c.proved),

@@ -3,9 +3,9 @@ use Rattle.std.proofs.Common.{◌≡◌, refl, ap, sym, Bool, true, false, if◌
 use Rattle.packet_frame.specs.Packets.{id_after}
 use Rattle.packet_stream.specs.Sent.{id_behind}
 use Rattle.interaction.specs.Talk.{Got, Says, Hears, Asks}
-use Rattle.session_talk.specs.Laws.{OwedGoesOn, StaleChangesNothing}
+use Rattle.session_talk.specs.Laws.{OwedGoesOn, StaleChangesNothing, StaleStatementsChangeNothing}
 use Rattle.session_talk.specs.Owed.{Owed, after_all_sent, after_sent, owed, waits}
-use Rattle.session_talk.specs.Talk.{on_checked, on_locked, on_look, on_settled}
+use Rattle.session_talk.specs.Talk.{on_checked, on_locked, on_look, on_prepared, on_ran, on_ran_locked, on_settled}
 use Rattle.session_talk.specs.Turns.{takes}
 
 pub owed_goes_on : OwedGoesOn
@@ -34,4 +34,11 @@ unfolding owed on_look on_checked on_settled on_locked
 stale_changes_nothing = record {
   once = λ next a look again evidences back checked reply packets owns. refl;
   twice = λ next a look again evidences back later checked reply packets owns. refl;
+}
+
+pub stale_statements_change_nothing : StaleStatementsChangeNothing
+unfolding owed on_look on_prepared on_ran on_ran_locked
+stale_statements_change_nothing = record {
+  once = λ next goes_on opened prepared anew back again reply packets owns. refl;
+  twice = λ next goes_on opened prepared anew back later again reply packets owns. refl;
 }

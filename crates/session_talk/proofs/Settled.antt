@@ -1,5 +1,5 @@
 -- Each beginning of a session that ends in a settling, and in what is sent because of it, is a conversation.
-use Rattle.std.proofs.Common.{◌≡◌, ◌≢◌, refl, ap, sym, ◌∙◌, subst, inl, inr, ℕ, zero, suc, Bool, true, false, List, [], ◌∷◌, ◌++◌, Option, Some, None, Result, Ok, Err}
+use Rattle.std.proofs.Common.{◌≡◌, ◌≢◌, refl, ap, sym, ◌∙◌, subst, inl, inr, ℕ, zero, suc, Bool, true, false, List, [], ◌∷◌, ◌++◌, Result, Ok, Err}
 use Rattle.std.proofs.lemmas.Slice.Eq.{bytes_eq-Decides}
 use Rattle.lg_base.specs.declared.errors.Code.{Code}
 use Rattle.factor_chain.specs.Checking.{known_fits_of}
@@ -7,7 +7,10 @@ use Rattle.factor_chain.specs.declared.credentials.Look.{Look}
 use Rattle.factor_chain.specs.declared.credentials.Method.{Method}
 use Rattle.factor_chain.specs.declared.credentials.Method.TheVariants.{Native, CachingSha2}
 use Rattle.factor_chain.specs.declared.evidence_list.Evidence.{Evidence}
+use Rattle.account_history.specs.Preparing.{is_preparable}
+use Rattle.account_history.specs.Refusals.{auth_of}
 use Rattle.account_history.specs.declared.entries.Reply.{Reply}
+use Rattle.account_history.specs.declared.entries.StmtReply.{StmtReply}
 use Rattle.account_history.specs.declared.entries.Who.{Who}
 use Rattle.account_history.specs.declared.entries.Who.TheVariants.{Login}
 use Rattle.wire_form.specs.Payloads.{start}
@@ -20,9 +23,12 @@ use Rattle.auth_packets.proofs.HandshakeLaws.{response-lawful}
 use Rattle.interaction.specs.Talk.{Over, Says}
 use Rattle.session_talk.specs.declared.attempts.Attempting.{Attempting}
 use Rattle.session_talk.specs.declared.ends.SessionEnd.{SessionEnd}
+use Rattle.session_talk.specs.declared.open_session.OpenSession.{OpenSession}
+use Rattle.stmt_rules.specs.declared.statement.Statement.{Statement}
 use Rattle.session_talk.specs.Conversation.{Conversation, Goes, Move, Drew, Sent, Got, Looked, Stale, Settled, Exchange, Named, Switched, IsExchange, exchange_moves, nonce_in, answer_in, Proof, Blank, Answered, Known, Clear, IsBlank, IsProof, proof_moves, evidence_in, Settling, AtOnce, Once, Twice, last_payload, greeting_moves}
-use Rattle.session_talk.specs.Logins.{all_commands, answered, answering, attempt_of, caching, claim_of, claimed, commanded, commands, heard_by, is_blank, is_named, method_of, next_command, proved, proving, refusal_of, responded, session}
-use Rattle.session_talk.specs.Talk.{SessionTalk, on_checked, on_drawn, on_locked, on_look, on_settled, on_start}
+use Rattle.session_talk.specs.Logins.{answered, answering, attempt_of, caching, claim_of, claimed, commanded, commands_left, decided, heard_by, is_blank, is_named, method_of, next_command, proved, proving, responded, session, with_left}
+use Rattle.session_talk.specs.Statements.{executing, has_password, is_let_through, queried_for, salted, stated, statement_in}
+use Rattle.session_talk.specs.Talk.{SessionTalk, commits_plain, prepares, on_checked, on_drawn, on_locked, on_look, on_settled, on_start}
 use Rattle.session_talk.specs.Texts.{fast_payload, full_payload, method_name, switch_payload}
 use Rattle.session_talk.proofs.Conversing.{last_moves}
 
@@ -45,36 +51,73 @@ module _ (user : List ℕ) (evidences : List Evidence) (flags : ℕ) (reply : Re
   says_over how told (Sent p ∷ before) goes = over how before goes.1
   says_over how told _ goes = absurd goes
 
-  never : (left : ℕ) (before : List Move) → Goes (commands left) (before ++ tail) after → ⊥
+  says : (told : List ℕ) (t : SessionTalk) (before : List Move) → ((more : List Move) → Goes t (more ++ tail) after → ⊥) →
+      Goes (Says told t) (before ++ tail) after → ⊥
+  says told t (Sent p ∷ before) never goes = never before goes.1
+  says told t _ never goes = absurd goes
+
+  -- what prepares or executes a statement settles no attempt
+  prepares_none : (look : Look) (statement : Statement) (salt : List ℕ) (actor : ℕ) (t : SessionTalk) (before : List Move) →
+      Goes (prepares look statement salt actor t) (before ++ tail) after → ⊥
+  prepares_none look statement salt actor t [] goes = goes
+  prepares_none look statement salt actor t (move ∷ before) goes = goes
+
+  executes_none : (statement : Statement) (actor : ℕ) (k : StmtReply → SessionTalk) (before : List Move) →
+      Goes (commits_plain statement actor k) (before ++ tail) after → ⊥
+  executes_none statement actor k [] goes = goes
+  executes_none statement actor k (move ∷ before) goes = goes
+
+  module _ (goes_on : OpenSession → SessionTalk) (never_on : (later : OpenSession) (more : List Move) → Goes (goes_on later) (more ++ tail) after → ⊥) where
+    salted_none : (by : Bool) (opened : OpenSession) (look : Look) (statement : Statement) (before : List Move) →
+        Goes (salted goes_on by opened look statement) (before ++ tail) after → ⊥
+    unfolding on_drawn
+    salted_none true opened look statement (Drew salt ∷ before) goes = prepares_none _ _ _ _ _ before goes
+    salted_none true opened look statement _ goes = absurd goes
+    salted_none false opened look statement before goes = prepares_none _ _ _ _ _ before goes
+
+    executing_none : (preparable : Bool) (opened : OpenSession) (statement : Statement) (before : List Move) →
+        Goes (executing goes_on preparable opened statement) (before ++ tail) after → ⊥
+    unfolding on_look
+    executing_none true opened statement (Looked who look ∷ before) goes = salted_none (has_password (auth_of statement)) opened look statement before goes.1
+    executing_none true opened statement _ goes = absurd goes
+    executing_none false opened statement before goes = executes_none _ _ _ before goes
+
+    stated_none : (through : Bool) (opened : OpenSession) (statement : Statement) (before : List Move) →
+        Goes (stated goes_on through opened statement) (before ++ tail) after → ⊥
+    stated_none true opened statement before goes = executing_none (is_preparable statement) opened statement before goes
+    stated_none false opened statement before goes = says _ (goes_on opened) before (never_on opened) goes
+
+    queried_none : (opened : OpenSession) (found : Result Statement ℕ) (before : List Move) →
+        Goes (queried_for goes_on opened found) (before ++ tail) after → ⊥
+    queried_none opened (Ok statement) before goes = stated_none (is_let_through opened statement) opened statement before goes
+    queried_none opened (Err place) before goes = says _ (goes_on opened) before (never_on opened) goes
+
+    commanded_none : (found : Result Command ℕ) (opened : OpenSession) (before : List Move) →
+        Goes (commanded found goes_on opened) (before ++ tail) after → ⊥
+    commanded_none (Ok Quit) opened before goes = over _ before goes
+    commanded_none (Ok Ping) opened before goes = says _ (goes_on opened) before (never_on opened) goes
+    commanded_none (Ok Reset) opened before goes = says _ (goes_on opened) before (never_on opened) goes
+    commanded_none (Ok (Query text)) opened before goes = queried_none opened (statement_in text) before goes
+    commanded_none (Ok (Change v)) opened before goes = says _ (goes_on opened) before (never_on opened) goes
+    commanded_none (Ok (Other first)) opened before goes = says _ (goes_on opened) before (never_on opened) goes
+    commanded_none (Ok Nothing) opened before goes = says _ (goes_on opened) before (never_on opened) goes
+    commanded_none (Err at) opened before goes = says _ (goes_on opened) before (never_on opened) goes
+
+  never : (left : ℕ) (opened : OpenSession) (before : List Move) → Goes (commands_left left opened) (before ++ tail) after → ⊥
   unfolding next_command heard_by
-  never zero (Got p ∷ before) goes = over _ before goes
-  never (suc left) (Got p ∷ before) goes = never_by left (command.read (start p)) before goes (λ more. never left more)
-    where
-      never_says : (left : ℕ) (told : List ℕ) (before : List Move) → ((more : List Move) → Goes (commands left) (more ++ tail) after → ⊥) →
-          Goes (Says told (commands left)) (before ++ tail) after → ⊥
-      never_says left told (Sent p ∷ before) again goes = again before goes.1
-      never_says left told _ again goes = absurd goes
+  never zero opened (Got p ∷ before) goes = over _ before goes
+  never (suc left) opened (Got p ∷ before) goes =
+      commanded_none (commands_left left) (never left) (command.read (start p)) (with_left left opened) before goes
+  never left opened _ goes = absurd goes
 
-      never_by : (left : ℕ) (found : Result Command ℕ) (before : List Move) → Goes (commanded found (commands left)) (before ++ tail) after →
-          ((more : List Move) → Goes (commands left) (more ++ tail) after → ⊥) → ⊥
-      never_by left (Ok Quit) before goes again = over _ before goes
-      never_by left (Ok Ping) before goes again = never_says left _ before again goes
-      never_by left (Ok Reset) before goes again = never_says left _ before again goes
-      never_by left (Ok (Query text)) before goes again = never_says left _ before again goes
-      never_by left (Ok (Change v)) before goes again = never_says left _ before again goes
-      never_by left (Ok (Other first)) before goes again = never_says left _ before again goes
-      never_by left (Ok Nothing) before goes again = never_says left _ before again goes
-      never_by left (Err at) before goes again = never_says left _ before again goes
-  never left _ goes = absurd goes
+  never_again : (found : Result OpenSession Code) (before : List Move) → Goes (answered found) (before ++ tail) after → ⊥
+  never_again (Ok opened) (Sent p ∷ before) goes = never opened.left opened before goes.1
+  never_again (Ok opened) _ goes = absurd goes
+  never_again (Err error) before goes = says_over _ _ before goes
 
-  never_again : (o : Option Code) (before : List Move) → Goes (answered o) (before ++ tail) after → ⊥
-  never_again None (Sent p ∷ before) goes = never all_commands before goes.1
-  never_again None _ goes = absurd goes
-  never_again (Some error) before goes = says_over _ _ before goes
-
-  told : (o : Option Code) → Goes (answered o) (Sent payload ∷ []) after → payload ≡ last_payload o
-  told None goes = goes.0
-  told (Some error) goes = goes.0
+  told : (found : Result OpenSession Code) → Goes (answered found) (Sent payload ∷ []) after → payload ≡ last_payload found
+  told (Ok opened) goes = goes.0
+  told (Err error) goes = goes.0
 
   -- ## The settling
 
@@ -84,23 +127,23 @@ module _ (user : List ℕ) (evidences : List Evidence) (flags : ℕ) (reply : Re
   settles : (a : Attempting) (look : Look) (given : Evidence) (before : List Move) → Goes (proved a look given) (before ++ tail) after →
       Settles_so a look given (before ++ tail)
   unfolding on_look on_checked on_settled on_locked
-  settles a look given [] goes = (AtOnce, tail_is _ _ _ _ goes.0 goes.1 goes.2 (told (refusal_of a.user reply) goes.3))
-  settles a look given (Settled u e f r ∷ before) goes = absurd (never_again (refusal_of a.user r) before goes.3)
+  settles a look given [] goes = (AtOnce, tail_is _ _ _ _ goes.0 goes.1 goes.2 (told (decided a reply) goes.3))
+  settles a look given (Settled u e f r ∷ before) goes = absurd (never_again (decided a r) before goes.3)
   settles a look given (Stale ∷ Looked who again ∷ []) goes = (Once again, moved)
     where
       moved : Stale ∷ Looked who again ∷ tail ≡ last_moves a look given (Once again) reply
       moved = ap (λ (w : Who). Stale ∷ Looked w again ∷ tail) goes.0
           ∙ ap (λ (ms : List Move). Stale ∷ Looked (Login a.user) again ∷ ms)
-          (tail_is _ _ _ _ goes.1.0 goes.1.1 goes.1.2 (told (refusal_of a.user reply) goes.1.3))
-  settles a look given (Stale ∷ Looked who again ∷ Settled u e f r ∷ before) goes = absurd (never_again (refusal_of a.user r) before goes.1.3)
+          (tail_is _ _ _ _ goes.1.0 goes.1.1 goes.1.2 (told (decided a reply) goes.1.3))
+  settles a look given (Stale ∷ Looked who again ∷ Settled u e f r ∷ before) goes = absurd (never_again (decided a r) before goes.1.3)
   settles a look given (Stale ∷ Looked who again ∷ Stale ∷ []) goes = (Twice again, moved)
     where
       moved : Stale ∷ Looked who again ∷ Stale ∷ tail ≡ last_moves a look given (Twice again) reply
       moved = ap (λ (w : Who). Stale ∷ Looked w again ∷ Stale ∷ tail) goes.0
           ∙ ap (λ (ms : List Move). Stale ∷ Looked (Login a.user) again ∷ Stale ∷ ms)
-          (tail_is _ _ _ _ goes.1.0 goes.1.1 goes.1.2 (told (refusal_of a.user reply) goes.1.3))
+          (tail_is _ _ _ _ goes.1.0 goes.1.1 goes.1.2 (told (decided a reply) goes.1.3))
   settles a look given (Stale ∷ Looked who again ∷ Stale ∷ Settled u e f r ∷ before) goes =
-      absurd (never_again (refusal_of a.user r) before goes.1.3)
+      absurd (never_again (decided a r) before goes.1.3)
   settles a look given (Stale ∷ Looked who again ∷ _) goes = absurd goes.1
   settles a look given _ goes = absurd goes
 

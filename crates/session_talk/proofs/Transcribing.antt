@@ -23,7 +23,8 @@ use Rattle.session_talk.specs.Turns.{Adds, IsAsked, IsFitting, asked, first_id, 
 use Rattle.session_talk.specs.Wired.{Wired, said_from, stops, wired}
 use Rattle.session_talk.proofs.Asking.{own_answer, untrue}
 use Rattle.session_talk.proofs.Running.{at}
-use Rattle.session_talk.proofs.Putting.{PutsNoEnd, rest_puts}
+use Rattle.session_talk.proofs.Putting.{faulted_well, no_end, rest_well}
+use Rattle.session_talk.specs.Doable.{AsksWell}
 
 -- a talk at a question
 abbrev pub IsResting : SessionTalk → Type 0
@@ -36,11 +37,6 @@ rest_rests (Says payload t) = rest_rests t
 rest_rests (Hears anew k) = tt
 rest_rests (Asks q k) = tt
 rest_rests (Over how) = tt
-
-faulted_puts : (fault : FrameFault) → PutsNoEnd (faulted fault)
-faulted_puts (TooLarge place) = tt
-faulted_puts (OutOfOrder place want got) = tt
-faulted_puts NoMemory = tt
 
 -- what is read of bytes and what is owed over them make these entries, and are these packets, these payloads and this end
 pub record Shows (peer : Peer) (t : SessionTalk) (read : Reading) (w : Wired) (owns : List Input) (entries : List Entry) (packets : List Packet) (sent : List Sent) (how : Option SessionEnd) : Type 0 where
@@ -135,13 +131,13 @@ module _ (peer : Peer) (left : Stream) where
       by_shown peer None next anew k left [] (Part missing) [] [] [] e
       (record { entered = (refl, refl); reads = refl; sends = refl; ends = ap (λ (p : Peer). ended p (Hears anew k) left) (sym is) })
 
-  stops_here : (next : ℕ) (t : SessionTalk) → IsResting t → PutsNoEnd t → IsDone peer (asked next t) left →
+  stops_here : (next : ℕ) (t : SessionTalk) → IsResting t → AsksWell t → IsDone peer (asked next t) left →
       Stands peer next t left [] [] [] [] (end_in (asked next t))
   unfolding wired read_of Enters question wanted_by
-  stops_here next (Says payload t) rests puts done = absurd rests
-  stops_here next (Hears anew k) rests puts done = waits_here next anew k done.1.0 done.1.1 done.0
-  stops_here next (Asks q k) rests puts done = record { entered = (refl, refl); reads = refl; sends = refl; ends = puts.0 }
-  stops_here next (Over how) rests puts done = record { entered = (refl, refl); reads = refl; sends = refl; ends = refl }
+  stops_here next (Says payload t) rests well done = absurd rests
+  stops_here next (Hears anew k) rests well done = waits_here next anew k done.1.0 done.1.1 done.0
+  stops_here next (Asks q k) rests well done = record { entered = (refl, refl); reads = refl; sends = refl; ends = no_end q well.0 }
+  stops_here next (Over how) rests well done = record { entered = (refl, refl); reads = refl; sends = refl; ends = refl }
 
   -- ## Turn by turn
 
@@ -180,45 +176,45 @@ module _ (peer : Peer) (left : Stream) where
   how_of next t inputs = end_in (asked (stands_after (at next t) inputs).next (stands_after (at next t) inputs).at)
 
   abbrev Run : List Input → (next : ℕ) → SessionTalk → Type 0
-  Run inputs next t = (stream : Stream) (entries : List Entry) → IsResting t → PutsNoEnd t → EachAnswers (at next t) inputs →
+  Run inputs next t = (stream : Stream) (entries : List Entry) → IsResting t → AsksWell t → EachAnswers (at next t) inputs →
       Given peer (at next t) stream entries inputs left → IsDone peer (asked (stands_after (at next t) inputs).next (stands_after (at next t) inputs).at) left →
       Stands peer next t stream (owns_in inputs) entries (packets_in inputs) (spoken (at next t) inputs) (how_of next t inputs)
 
   pub run : (inputs : List Input) (next : ℕ) (t : SessionTalk) → Run inputs next t
   unfolding wired read_of Enters heard is_answer IsAsked wanted_by
-  run [] next t stream entries rests puts each given done =
+  run [] next t stream entries rests well each given done =
       subst (λ (es : List Entry). Stands peer next t stream [] es [] [] (how_of next t [])) (sym given.0)
-      (subst (λ (l : Stream). Stands peer next t l [] [] [] [] (how_of next t [])) given.1 (stops_here next t rests puts done))
-  run (input.Packet packet ∷ inputs) next (Hears anew k) stream entries rests puts each given done =
+      (subst (λ (l : Stream). Stands peer next t l [] [] [] [] (how_of next t [])) given.1 (stops_here next t rests well done))
+  run (input.Packet packet ∷ inputs) next (Hears anew k) stream entries rests well each given done =
       hears peer _ next anew k stream (owns_in inputs) packet given.3.0 entries (packets_in inputs) _ given.3.1 given.3.2
       (turn (input.Packet packet) inputs next (Hears anew k) _ given.0 _ entries _ _ given.3.3
       (adding _ _ given.0 _ entries given.1 given.2 [] _ _ _ given.5 given.4
-      (run inputs _ _ given.0 given.2 (rest_rests (k (Got packet.payload))) (rest_puts (k (Got packet.payload)) (puts packet.payload)) each.3 given.6 done)))
-  run (input.Frame fault ∷ inputs) next (Hears anew k) stream entries rests puts each given done =
+      (run inputs _ _ given.0 given.2 (rest_rests (k (Got packet.payload))) (rest_well (k (Got packet.payload)) (well packet.payload)) each.3 given.6 done)))
+  run (input.Frame fault ∷ inputs) next (Hears anew k) stream entries rests well each given done =
       fails peer _ next anew k stream (owns_in inputs) fault entries (packets_in inputs) _ given.3.0
       (turn (input.Frame fault) inputs next (Hears anew k) stream given.0 (owns_in inputs) entries _ _ given.3.1
       (adding _ _ given.0 _ entries given.1 given.2 [] _ _ _ given.5 given.4
-      (run inputs _ _ given.0 given.2 (rest_rests (faulted fault)) (rest_puts (faulted fault) (faulted_puts fault)) each.3 given.6 done)))
-  run (input.End cut ∷ inputs) next (Hears anew k) stream entries rests puts each given done =
+      (run inputs _ _ given.0 given.2 (rest_rests (faulted fault)) (rest_well (faulted fault) (faulted_well fault)) each.3 given.6 done)))
+  run (input.End cut ∷ inputs) next (Hears anew k) stream entries rests well each given done =
       closes peer _ next anew k stream (owns_in inputs) given.3.0.0 entries (packets_in inputs) _ (end.PeerClosed cut) given.3.0.1
       (ap (λ (p : Peer). ended p (Hears anew k) stream) given.3.1 ∙ ap (λ (c : Bool). Some (end.PeerClosed c)) (sym given.3.2))
       (turn (input.End cut) inputs next (Hears anew k) stream given.0 (owns_in inputs) entries _ _ given.3.3
       (adding _ _ given.0 _ entries given.1 given.2 [] _ _ _ given.5 given.4
-      (run inputs _ _ given.0 given.2 (rest_rests (Over (end.PeerClosed cut))) (rest_puts (Over (end.PeerClosed cut)) tt) each.3 given.6 done)))
-  run (input.LinkFailed ∷ inputs) next (Hears anew k) stream entries rests puts each given done =
+      (run inputs _ _ given.0 given.2 (rest_rests (Over (end.PeerClosed cut))) (rest_well (Over (end.PeerClosed cut)) tt) each.3 given.6 done)))
+  run (input.LinkFailed ∷ inputs) next (Hears anew k) stream entries rests well each given done =
       closes peer _ next anew k stream (owns_in inputs) given.3.0.0 entries (packets_in inputs) _ end.LinkFault given.3.0.1
       (ap (λ (p : Peer). ended p (Hears anew k) stream) given.3.1)
       (turn input.LinkFailed inputs next (Hears anew k) stream given.0 (owns_in inputs) entries _ _ given.3.2
       (adding _ _ given.0 _ entries given.1 given.2 [] _ _ _ given.5 given.4
-      (run inputs _ _ given.0 given.2 (rest_rests (Over end.LinkFault)) (rest_puts (Over end.LinkFault) tt) each.3 given.6 done)))
-  run (input.Packet packet ∷ inputs) next (Asks q k) stream entries rests puts each g done = absurd (untrue (own_answer q (input.Packet packet) each.1).1)
-  run (input.Frame fault ∷ inputs) next (Asks q k) stream entries rests puts each g done = absurd (untrue (own_answer q (input.Frame fault) each.1).1)
-  run (input.End cut ∷ inputs) next (Asks q k) stream entries rests puts each g done = absurd (untrue (own_answer q (input.End cut) each.1).1)
-  run (input.LinkFailed ∷ inputs) next (Asks q k) stream entries rests puts each g done = absurd (untrue (own_answer q input.LinkFailed each.1).1)
-  run (given ∷ inputs) next (Asks q k) stream entries rests puts each g done =
+      (run inputs _ _ given.0 given.2 (rest_rests (Over end.LinkFault)) (rest_well (Over end.LinkFault) tt) each.3 given.6 done)))
+  run (input.Packet packet ∷ inputs) next (Asks q k) stream entries rests well each g done = absurd (untrue (own_answer q (input.Packet packet) each.1).1)
+  run (input.Frame fault ∷ inputs) next (Asks q k) stream entries rests well each g done = absurd (untrue (own_answer q (input.Frame fault) each.1).1)
+  run (input.End cut ∷ inputs) next (Asks q k) stream entries rests well each g done = absurd (untrue (own_answer q (input.End cut) each.1).1)
+  run (input.LinkFailed ∷ inputs) next (Asks q k) stream entries rests well each g done = absurd (untrue (own_answer q input.LinkFailed each.1).1)
+  run (given ∷ inputs) next (Asks q k) stream entries rests well each g done =
       subst (λ (es : List Entry). Stands peer next (Asks q k) stream (given ∷ owns_in inputs) es (packets_in inputs) (spoken (at next (Asks q k)) (given ∷ inputs)) (how_of next (Asks q k) (given ∷ inputs))) (sym g.5)
       (answers_on next q k given stream (owns_in inputs) g.1 g.2 (packets_in inputs) _ _ (own_answer q given each.1).0 each.2 g.4
       (turn given inputs next (Asks q k) stream g.0 (owns_in inputs) g.2 _ _ g.3
-      (run inputs _ _ g.0 g.2 (rest_rests (k given)) (rest_puts (k given) (puts.1 given)) each.3 g.6 done)))
-  run (given ∷ inputs) next (Over how) stream entries rests puts each g done = absurd each.0
-  run (given ∷ inputs) next t stream entries rests puts each g done = absurd (untrue each.1)
+      (run inputs _ _ g.0 g.2 (rest_rests (k given)) (rest_well (k given) (well.2 given each.1)) each.3 g.6 done)))
+  run (given ∷ inputs) next (Over how) stream entries rests well each g done = absurd each.0
+  run (given ∷ inputs) next t stream entries rests well each g done = absurd (untrue each.1)

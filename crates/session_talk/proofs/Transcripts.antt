@@ -18,7 +18,7 @@ use Rattle.session_talk.specs.Transcript.{Open, Peer}
 use Rattle.session_talk.specs.Turns.{wanted_by}
 use Rattle.packet_stream.specs.declared.limits.TheConstants.{MAX_PAYLOAD}
 use Rattle.packet_stream.proofs.Heads.{Cuts, front-cuts}
-use Rattle.session_talk.proofs.Putting.{session_puts}
+use Rattle.session_talk.proofs.Putting.{session_well}
 use Rattle.session_talk.proofs.Transcribing.{run}
 
 -- ## All the bytes
@@ -27,7 +27,7 @@ whole : (id : ℕ) (peer : Peer) (bytes : List ℕ) (entries : List Entry) (inpu
     EachAnswers (begins id) inputs → Given peer (begins id) (all_of bytes) entries inputs left → IsDone peer (asked_after id inputs) left →
     Transcribes id peer bytes entries inputs
 whole id peer bytes entries inputs left each given done =
-    let s = run peer left inputs 0 (session id) (all_of bytes) entries tt (session_puts id) each given done in
+    let s = run peer left inputs 0 (session id) (all_of bytes) entries tt (session_well id) each given done in
     record {
       transcript = record { owns = owns_in inputs; entered = s.entered; sends = s.sends; ends = s.ends };
       answers = refl;

@@ -3,17 +3,20 @@ use Rattle.std.proofs.Common.{IsTrue, ℕ, List}
 use Rattle.factor_chain.specs.CheckedOf.{CheckedOf}
 use Rattle.factor_chain.specs.declared.credentials.Look.{Look}
 use Rattle.factor_chain.specs.declared.evidence_list.Evidence.{Evidence}
+use Rattle.account_history.specs.Preparing.{PreparedOf}
 use Rattle.account_history.specs.declared.entries.Reply.{Reply}
+use Rattle.account_history.specs.declared.entries.StmtReply.{StmtReply}
 use Rattle.account_history.specs.declared.entries.Who.{Who}
 use Rattle.interaction.specs.Talk.{Says}
 use Rattle.session_talk.specs.Logins.{method_of, switched}
-use Rattle.session_talk.specs.Talk.{Begins, Own, SessionTalk, on_checked, on_drawn, on_locked, on_look, on_settled, on_start, unasked}
+use Rattle.session_talk.specs.Talk.{Begins, Own, SessionTalk, on_checked, on_drawn, on_locked, on_look, on_prepared, on_ran, on_ran_locked, on_settled, on_start, unasked}
 use Rattle.session_talk.specs.Texts.{switch_payload}
 use Rattle.session_talk.specs.Turns.{takes}
 use Rattle.session_talk.specs.declared.actions.Ask.TheVariants as ask
 use Rattle.session_talk.specs.declared.attempts.Attempting.{Attempting}
 use Rattle.session_talk.specs.declared.inputs.Input.{Input}
 use Rattle.session_talk.specs.declared.inputs.Input.TheVariants as input
+use Rattle.stmt_rules.specs.declared.statement.Statement.{Statement}
 use Rattle.session_talk.proofs.Asking.{untrue}
 
 -- what a client that is told to switch is sent, and what follows
@@ -53,6 +56,22 @@ module _ (P : SessionTalk → Type 0) (none : P unasked) where
   unfolding on_locked
   locked_all k all (input.Settled reply) = all reply
   locked_all k all _ = none
+
+  pub prepared_all : (t : SessionTalk) → P t → (given : Input) → P (on_prepared t given)
+  unfolding on_prepared
+  prepared_all t is (input.Prepared prepared) = is
+  prepared_all t is _ = none
+
+  pub ran_all : (stale : SessionTalk) (k : StmtReply → SessionTalk) → P stale → ((reply : StmtReply) → P (k reply)) → (given : Input) → P (on_ran stale k given)
+  unfolding on_ran
+  ran_all stale k is all (input.StaleStatement statement) = is
+  ran_all stale k is all (input.Ran reply) = all reply
+  ran_all stale k is all _ = none
+
+  pub ran_locked_all : (k : StmtReply → SessionTalk) → ((reply : StmtReply) → P (k reply)) → (given : Input) → P (on_ran_locked k given)
+  unfolding on_ran_locked
+  ran_locked_all k all (input.Ran reply) = all reply
+  ran_locked_all k all _ = none
 
 -- ## On each answer that the question takes
 
@@ -101,3 +120,32 @@ module _ (P : Input → SessionTalk → Type 0) where
   unfolding on_locked
   locked_taken user evidences flags k all (input.Settled reply) is = all reply
   locked_taken user evidences flags k all _ is = absurd (untrue is)
+
+  pub prepared_taken : (look : Look) (statement : Statement) (salt : List ℕ) (actor : ℕ) (t : SessionTalk) →
+      ((prepared : PreparedOf) → P (input.Prepared prepared) t) →
+      (given : Input) → IsTrue (takes (Own (ask.Prepare look statement salt actor)) given) → P given (on_prepared t given)
+  unfolding on_prepared
+  prepared_taken look statement salt actor t all (input.Prepared prepared) is = all prepared
+  prepared_taken look statement salt actor t all _ is = absurd (untrue is)
+
+  pub ran_taken : (prepared : PreparedOf) (actor : ℕ) (stale : SessionTalk) (k : StmtReply → SessionTalk) →
+      ((statement : Statement) → P (input.StaleStatement statement) stale) → ((reply : StmtReply) → P (input.Ran reply) (k reply)) →
+      (given : Input) → IsTrue (takes (Own (ask.Commit prepared actor)) given) → P given (on_ran stale k given)
+  unfolding on_ran
+  ran_taken prepared actor stale k late all (input.StaleStatement statement) is = late statement
+  ran_taken prepared actor stale k late all (input.Ran reply) is = all reply
+  ran_taken prepared actor stale k late all _ is = absurd (untrue is)
+
+  pub ran_locked_taken : (statement : Statement) (salt : List ℕ) (actor : ℕ) (k : StmtReply → SessionTalk) →
+      ((reply : StmtReply) → P (input.Ran reply) (k reply)) →
+      (given : Input) → IsTrue (takes (Own (ask.CommitLocked statement salt actor)) given) → P given (on_ran_locked k given)
+  unfolding on_ran_locked
+  ran_locked_taken statement salt actor k all (input.Ran reply) is = all reply
+  ran_locked_taken statement salt actor k all _ is = absurd (untrue is)
+
+  pub ran_plain_taken : (statement : Statement) (actor : ℕ) (k : StmtReply → SessionTalk) →
+      ((reply : StmtReply) → P (input.Ran reply) (k reply)) →
+      (given : Input) → IsTrue (takes (Own (ask.CommitPlain statement actor)) given) → P given (on_ran_locked k given)
+  unfolding on_ran_locked
+  ran_plain_taken statement actor k all (input.Ran reply) is = all reply
+  ran_plain_taken statement actor k all _ is = absurd (untrue is)

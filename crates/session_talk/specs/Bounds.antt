@@ -4,10 +4,10 @@ use Rattle.interaction.specs.Talk.{Got, Says, Hears, Asks, Over}
 use Rattle.session_talk.specs.Talk.{SessionTalk}
 use Rattle.session_talk.specs.declared.inputs.Input.{Input}
 
--- at most so many questions that aren't for a packet come before the next packet, and at most seven after each
+-- at most so many questions that aren't for a packet come before the next packet, and at most eight after each
 abbrev pub Within : ℕ → SessionTalk → Type 0
 Within n (Says payload t) = Within n t
-Within n (Hears anew k) = (payload : List ℕ) → Within 7 (k (Got payload))
+Within n (Hears anew k) = (payload : List ℕ) → Within 8 (k (Got payload))
 Within n (Over how) = Unit {0}
 Within zero (Asks q k) = ⊥
 Within (suc n) (Asks q k) = (given : Input) → Within n (k given)

@@ -3,7 +3,7 @@
 --
 -- MySQL client/server protocol, "Connection Phase", "Protocol::AuthSwitchRequest" and "Caching SHA-2 Pluggable
 -- Authentication".
-use Rattle.std.specs.Prelude.{◌≡◌, ◌≢◌, ◌⊎◌, ℕ, true, false, List, [], ◌∷◌, ◌++◌, Option, Some, None}
+use Rattle.std.specs.Prelude.{◌≡◌, ◌≢◌, ◌⊎◌, ℕ, true, false, List, [], ◌∷◌, ◌++◌, Result, Ok, Err}
 use Rattle.lg_base.specs.declared.errors.Code.{Code}
 use Rattle.factor_chain.specs.Checking.{known_fits_of}
 use Rattle.factor_chain.specs.declared.credentials.Look.{Look}
@@ -19,7 +19,8 @@ use Rattle.interaction.specs.Talk as reading
 use Rattle.interaction.specs.Talk.{Says, Hears, Asks}
 use Rattle.session_talk.specs.declared.actions.Ask.TheVariants as ask
 use Rattle.session_talk.specs.declared.inputs.Input.TheVariants as input
-use Rattle.session_talk.specs.Logins.{clear_evidence, method_of, refusal_of, without_zero}
+use Rattle.session_talk.specs.declared.open_session.OpenSession.{OpenSession}
+use Rattle.session_talk.specs.Logins.{attempt_of, clear_evidence, decided, method_of, without_zero}
 use Rattle.session_talk.specs.Talk.{Begins, Own, SessionTalk}
 use Rattle.session_talk.specs.Texts.{error_payload, fast_payload, full_payload, greeting_payload, method_name, ok_payload, switch_payload}
 
@@ -114,9 +115,9 @@ settling_moves user look evidences flags (Twice again) reply =
     Stale ∷ Looked (Login user) again ∷ Stale ∷ Settled user evidences flags reply ∷ []
 
 -- OK, or the error that names the rule
-abbrev pub last_payload : Option Code → List ℕ
-last_payload None = ok_payload
-last_payload (Some error) = error_payload error
+abbrev pub last_payload : Result OpenSession Code → List ℕ
+last_payload (Ok opened) = ok_payload
+last_payload (Err error) = error_payload error
 
 -- ## The whole
 
@@ -140,7 +141,7 @@ pub record Conversation (id : ℕ) (moves : List Move) (reply : Reply) : Type 0 
       ++ (Looked (Login said.user) look ∷ (exchange_moves look exchange
       ++ (proof_moves proof
       ++ (settling_moves said.user look (evidence_in (nonce_in nonce exchange) (answer_in said exchange) proof ∷ []) said.flags settling reply
-      ++ Sent (last_payload (refusal_of said.user reply)) ∷ []))))
+      ++ Sent (last_payload (decided (attempt_of said) reply)) ∷ []))))
 
 -- ## The moves of a talk
 

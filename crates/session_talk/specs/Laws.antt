@@ -6,7 +6,9 @@ use Rattle.factor_chain.specs.CheckedOf.{CheckedOf}
 use Rattle.factor_chain.specs.declared.credentials.Look.{Look}
 use Rattle.factor_chain.specs.declared.evidence_list.Evidence.{Evidence}
 use Rattle.account_history.specs.declared.entries.Entry.{Entry}
+use Rattle.account_history.specs.Preparing.{PreparedOf}
 use Rattle.account_history.specs.declared.entries.Reply.{Reply}
+use Rattle.account_history.specs.declared.entries.StmtReply.{StmtReply}
 use Rattle.session_talk.specs.Bounds.{Within}
 use Rattle.session_talk.specs.Conversation.{Conversation, Goes, Move, Sent as Send, Settled}
 use Rattle.session_talk.specs.Given.{Given, IsDone, Reads, Transcribes, asked_after, begins}
@@ -16,6 +18,7 @@ use Rattle.session_talk.specs.Owed as owing
 use Rattle.session_talk.specs.Owed.{owed}
 use Rattle.session_talk.specs.Runs.{AllAnswer, EachAnswers, Standing, ending_by, owns_in, packets_in, spoken, stands_after}
 use Rattle.packet_stream.specs.Sent.{sent_from}
+use Rattle.session_talk.specs.Statements.{committing}
 use Rattle.session_talk.specs.Talk.{Own, SessionTalk}
 use Rattle.session_talk.specs.Transcript.{Open, Peer}
 use Rattle.session_talk.specs.Turns.{Answers, IsAsked, IsBegun, IsFitting, asked, is_answer, is_read, rest, said, wanted_by}
@@ -25,6 +28,8 @@ use Rattle.session_talk.specs.declared.actions.Ask.TheVariants as ask
 use Rattle.session_talk.specs.declared.attempts.Attempting.{Attempting}
 use Rattle.session_talk.specs.declared.inputs.Input.{Input}
 use Rattle.session_talk.specs.declared.inputs.Input.TheVariants as input
+use Rattle.session_talk.specs.declared.open_session.OpenSession.{OpenSession}
+use Rattle.stmt_rules.specs.declared.statement.Statement.{Statement}
 
 -- What is owed goes on: for further packets and answers it is what was owed before, and what the talk that then stood
 -- owes for them.
@@ -106,9 +111,9 @@ AsksAreAnswered =
 abbrev pub WhatFitsIsAsked : Type 0
 WhatFitsIsAsked = (next : ℕ) (t : SessionTalk) (given : Input) → IsFitting (Own (asked next t)) given → IsAsked t given
 
--- A session asks at most seven questions between two packets.
+-- A session asks at most eight questions between two packets.
 abbrev pub SessionsAreBounded : Type 0
-SessionsAreBounded = (id : ℕ) → Within 7 (session id)
+SessionsAreBounded = (id : ℕ) → Within 8 (session id)
 
 -- A stale answer changes nothing of what a session sends, nor of what follows: once, and twice.
 pub record StaleChangesNothing : Type 0 where
@@ -120,3 +125,14 @@ pub record StaleChangesNothing : Type 0 where
       owed next (settling false a (record { look = look; evidences = evidences })) packets
       (input.Stale back ∷ input.Looked again ∷ input.Checked checked ∷ input.Stale later ∷ input.Settled reply ∷ owns)
       ≡ owed next (settling false a (record { look = look; evidences = evidences })) packets (input.Settled reply ∷ owns)
+
+-- Nor for a statement: once, and twice. The salt that was drawn stays.
+pub record StaleStatementsChangeNothing : Type 0 where
+  pub once : (next : ℕ) (goes_on : OpenSession → SessionTalk) (opened : OpenSession) (prepared anew : PreparedOf) (back : Statement) (again : Look) (reply : StmtReply) (packets : List Packet) (owns : List Input) →
+      owed next (committing goes_on false opened prepared) packets
+      (input.StaleStatement back ∷ input.Looked again ∷ input.Prepared anew ∷ input.Ran reply ∷ owns)
+      ≡ owed next (committing goes_on false opened prepared) packets (input.Ran reply ∷ owns)
+  pub twice : (next : ℕ) (goes_on : OpenSession → SessionTalk) (opened : OpenSession) (prepared anew : PreparedOf) (back later : Statement) (again : Look) (reply : StmtReply) (packets : List Packet) (owns : List Input) →
+      owed next (committing goes_on false opened prepared) packets
+      (input.StaleStatement back ∷ input.Looked again ∷ input.Prepared anew ∷ input.StaleStatement later ∷ input.Ran reply ∷ owns)
+      ≡ owed next (committing goes_on false opened prepared) packets (input.Ran reply ∷ owns)

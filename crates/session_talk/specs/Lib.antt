@@ -1,5 +1,6 @@
 pub mod Texts
 pub mod Talk
+pub mod Statements
 pub mod Logins
 pub mod Turns
 pub mod Hearing
@@ -7,6 +8,7 @@ pub mod Owed
 pub mod Wired
 pub mod Conversation
 pub mod Bounds
+pub mod Doable
 pub mod Laws
 pub mod Runs
 pub mod Transcript

@@ -4,6 +4,7 @@ use Rattle.std.specs.Prelude.{ℕ, zero, suc, Bool, true, false, List, [], ◌�
 use Rattle.std.specs.Str.{bytes_eq}
 use Rattle.lg_base.specs.declared.errors.Code.{Code}
 use Rattle.lg_base.specs.declared.errors.Code.TheVariants as code
+use Rattle.lg_base.specs.declared.names.Host.{Host}
 use Rattle.lg_base.specs.Errors.{number_of}
 use Rattle.packet_frame.specs.declared.packets.FrameFault.{FrameFault}
 use Rattle.packet_frame.specs.declared.packets.FrameFault.TheVariants.{TooLarge, OutOfOrder, Memory as NoMemory}
@@ -29,6 +30,8 @@ use Rattle.session_talk.specs.declared.attempts.Attempting.{Attempting}
 use Rattle.session_talk.specs.declared.attempts.Claim.{Claim}
 use Rattle.session_talk.specs.declared.ends.SessionEnd.{SessionEnd}
 use Rattle.session_talk.specs.declared.ends.SessionEnd.TheVariants as end
+use Rattle.session_talk.specs.declared.open_session.OpenSession.{OpenSession}
+use Rattle.session_talk.specs.Statements.{queried}
 use Rattle.session_talk.specs.Talk.{SessionTalk, checks, draws, looks, renews, settles, settles_locked, starts}
 use Rattle.session_talk.specs.Texts.{days_of, error_payload, fast_payload, full_payload, greeting_payload, method_name, ok_payload, switch_payload}
 
@@ -66,25 +69,32 @@ hears anew k = Hears anew (heard_by k)
 abbrev pub done : SessionTalk → SessionTalk
 done next = Says ok_payload next
 
--- a command and what follows it: COM_QUIT ends the session, COM_PING and COM_RESET_CONNECTION change nothing, and
--- no other command is known
-abbrev pub commanded : Result Command ℕ → SessionTalk → SessionTalk
-commanded (Ok Quit) next = Over end.Quit
-commanded (Ok Ping) next = done next
-commanded (Ok Reset) next = done next
-commanded (Ok (Query text)) next = Says (error_payload code.UnknownCommand) next
-commanded (Ok (Change v)) next = Says (error_payload code.UnknownCommand) next
-commanded (Ok (Other first)) next = Says (error_payload code.UnknownCommand) next
-commanded (Ok Nothing) next = Says (error_payload code.UnknownCommand) next
-commanded (Err at) next = Says (error_payload code.UnknownCommand) next
+-- a command, and how the session goes on with what it then knows of itself: COM_QUIT ends the session, COM_PING and
+-- COM_RESET_CONNECTION change nothing, COM_QUERY brings a statement, and no other command is known
+abbrev pub commanded : Result Command ℕ → (OpenSession → SessionTalk) → OpenSession → SessionTalk
+commanded (Ok Quit) goes_on opened = Over end.Quit
+commanded (Ok Ping) goes_on opened = done (goes_on opened)
+commanded (Ok Reset) goes_on opened = done (goes_on opened)
+commanded (Ok (Query text)) goes_on opened = queried goes_on opened text
+commanded (Ok (Change v)) goes_on opened = Says (error_payload code.UnknownCommand) (goes_on opened)
+commanded (Ok (Other first)) goes_on opened = Says (error_payload code.UnknownCommand) (goes_on opened)
+commanded (Ok Nothing) goes_on opened = Says (error_payload code.UnknownCommand) (goes_on opened)
+commanded (Err at) goes_on opened = Says (error_payload code.UnknownCommand) (goes_on opened)
+
+abbrev pub with_left : (left : ℕ) → OpenSession → OpenSession
+with_left left opened = record opened { left = left }
 
 -- a payload that is read as a command: so many are still done, and at the one after them the session ends
-unfoldable pub next_command : (left : ℕ) → List ℕ → SessionTalk
-next_command zero payload = Over end.SessionLong
-next_command (suc left) payload = commanded (command.read (start payload)) (hears true (next_command left))
+unfoldable pub next_command : (left : ℕ) → OpenSession → List ℕ → SessionTalk
+next_command zero opened payload = Over end.SessionLong
+next_command (suc left) opened payload =
+    commanded (command.read (start payload)) (λ later. hears true (next_command left later)) (with_left left opened)
 
-abbrev pub commands : (left : ℕ) → SessionTalk
-commands left = hears true (next_command left)
+abbrev pub commands_left : (left : ℕ) → OpenSession → SessionTalk
+commands_left left opened = hears true (next_command left opened)
+
+abbrev pub commands : OpenSession → SessionTalk
+commands opened = commands_left opened.left opened
 
 -- of a session's commands the 1,048,576th isn't done
 abbrev pub all_commands : ℕ
@@ -92,32 +102,42 @@ all_commands = 1048575
 
 -- ## The reply to an attempt
 
--- the error that names the rule by which an attempt of a user was refused
-abbrev pub refusal_of : List ℕ → Reply → Option Code
-refusal_of user (Opened account host) = None
-refusal_of user (Sandbox account host) = None
-refusal_of user (Blocked rule left) = Some (code.Blocked user (days_of rule.time) left rule.attempts)
-refusal_of user (Denied using_password) = Some (code.Denied user using_password)
-refusal_of user Locked = Some (code.Locked user)
-refusal_of user MustChange = Some code.MustChange
+-- what a session knows of itself that an attempt opens on an account
+abbrev pub opened_on : Attempting → (account : ℕ) → Host → (sandbox : Bool) → OpenSession
+opened_on a account host sandbox = record {
+  account = account;
+  name = record { user = a.user; host = host };
+  sandbox = sandbox;
+  flags = a.flags;
+  left = all_commands;
+}
 
-abbrev pub answered : Option Code → SessionTalk
-answered None = done (commands all_commands)
-answered (Some error) = closing error (end.Refused (number_of error))
+-- the session that a reply opens, or the error that names the rule by which the attempt is refused
+abbrev pub decided : Attempting → Reply → Result OpenSession Code
+decided a (Opened account host) = Ok (opened_on a account host false)
+decided a (Sandbox account host) = Ok (opened_on a account host true)
+decided a (Blocked rule left) = Err (code.Blocked a.user (days_of rule.time) left rule.attempts)
+decided a (Denied using_password) = Err (code.Denied a.user using_password)
+decided a Locked = Err (code.Locked a.user)
+decided a MustChange = Err code.MustChange
+
+abbrev pub answered : Result OpenSession Code → SessionTalk
+answered (Ok opened) = done (commands opened)
+answered (Err error) = closing error (end.Refused (number_of error))
 
 -- a session opens, or the refusal is told and it ends
-abbrev pub outcome : List ℕ → Reply → SessionTalk
-outcome user reply = answered (refusal_of user reply)
+abbrev pub outcome : Attempting → Reply → SessionTalk
+outcome a reply = answered (decided a reply)
 
 -- ## Settling
 
 -- after a second stale answer the evidence is checked in the same step
 abbrev pub locking : Attempting → List Evidence → SessionTalk
-locking a evidences = settles_locked a.user evidences a.flags (outcome a.user)
+locking a evidences = settles_locked a.user evidences a.flags (outcome a)
 
 -- evidence that was checked is settled; a stale answer goes on otherwise
 abbrev pub settling_or : SessionTalk → Attempting → CheckedOf → SessionTalk
-settling_or stale a checked = settles checked a.flags stale (outcome a.user)
+settling_or stale a checked = settles checked a.flags stale (outcome a)
 
 abbrev pub checking_or : SessionTalk → Attempting → Look → List Evidence → SessionTalk
 checking_or stale a look evidences =

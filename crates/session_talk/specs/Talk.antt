@@ -3,7 +3,9 @@ use Rattle.std.specs.Prelude.{ℕ, List}
 use Rattle.factor_chain.specs.CheckedOf.{CheckedOf}
 use Rattle.factor_chain.specs.declared.credentials.Look.{Look}
 use Rattle.factor_chain.specs.declared.evidence_list.Evidence.{Evidence}
+use Rattle.account_history.specs.Preparing.{PreparedOf}
 use Rattle.account_history.specs.declared.entries.Reply.{Reply}
+use Rattle.account_history.specs.declared.entries.StmtReply.{StmtReply}
 use Rattle.account_history.specs.declared.entries.Who.{Who}
 use Rattle.interaction.specs.Talk.{Talk, Asks, Over}
 use Rattle.session_talk.specs.declared.actions.Ask.{Ask}
@@ -12,6 +14,7 @@ use Rattle.session_talk.specs.declared.ends.SessionEnd.{SessionEnd}
 use Rattle.session_talk.specs.declared.ends.SessionEnd.TheVariants as end
 use Rattle.session_talk.specs.declared.inputs.Input.{Input}
 use Rattle.session_talk.specs.declared.inputs.Input.TheVariants as input
+use Rattle.stmt_rules.specs.declared.statement.Statement.{Statement}
 
 -- what a session asks its own side
 pub data Question : Type 0 where
@@ -54,6 +57,20 @@ unfoldable pub on_locked : (Reply → SessionTalk) → Input → SessionTalk
 on_locked k (input.Settled reply) = k reply
 on_locked k _ = unasked
 
+-- the preparing of a statement has one outcome
+unfoldable pub on_prepared : SessionTalk → Input → SessionTalk
+on_prepared t (input.Prepared prepared) = t
+on_prepared t _ = unasked
+
+unfoldable pub on_ran : (stale : SessionTalk) → (StmtReply → SessionTalk) → Input → SessionTalk
+on_ran stale k (input.StaleStatement statement) = stale
+on_ran stale k (input.Ran reply) = k reply
+on_ran stale k _ = unasked
+
+unfoldable pub on_ran_locked : (StmtReply → SessionTalk) → Input → SessionTalk
+on_ran_locked k (input.Ran reply) = k reply
+on_ran_locked k _ = unasked
+
 -- ## Asking
 
 -- the nonce that a new session begins with is waited for
@@ -83,3 +100,19 @@ settles checked flags stale k = Asks (Own (ask.Settle checked flags)) (on_settle
 -- an attempt is settled whose evidence is checked in the same step: no answer is stale
 abbrev pub settles_locked : (user : List ℕ) → List Evidence → (flags : ℕ) → (Reply → SessionTalk) → SessionTalk
 settles_locked user evidences flags k = Asks (Own (ask.SettleLocked user evidences flags)) (on_locked k)
+
+-- a statement is prepared on a look
+abbrev pub prepares : Look → Statement → (salt : List ℕ) → (actor : ℕ) → SessionTalk → SessionTalk
+prepares look statement salt actor t = Asks (Own (ask.Prepare look statement salt actor)) (on_prepared t)
+
+-- a statement that was prepared is executed: the answer is stale, or it is a reply
+abbrev pub commits : PreparedOf → (actor : ℕ) → (stale : SessionTalk) → (StmtReply → SessionTalk) → SessionTalk
+commits prepared actor stale k = Asks (Own (ask.Commit prepared actor)) (on_ran stale k)
+
+-- a statement is prepared and executed in one step: no answer is stale
+abbrev pub commits_locked : Statement → (salt : List ℕ) → (actor : ℕ) → (StmtReply → SessionTalk) → SessionTalk
+commits_locked statement salt actor k = Asks (Own (ask.CommitLocked statement salt actor)) (on_ran_locked k)
+
+-- a statement that has nothing to prepare is executed
+abbrev pub commits_plain : Statement → (actor : ℕ) → (StmtReply → SessionTalk) → SessionTalk
+commits_plain statement actor k = Asks (Own (ask.CommitPlain statement actor)) (on_ran_locked k)

@@ -5,7 +5,8 @@ use Rattle.packet_frame.specs.Packets.{id_after}
 use Rattle.packet_stream.specs.Sent.{id_behind_all}
 use Rattle.factor_chain.specs.declared.credentials.InForce.{InForce}
 use Rattle.account_history.specs.declared.entries.Entry.{Entry}
-use Rattle.account_history.specs.declared.entries.Entry.TheVariants.{Observed, Attempted}
+use Rattle.account_history.specs.declared.entries.Entry.TheVariants.{Observed, Attempted, Executed}
+use Rattle.account_history.specs.declared.entries.StmtReply.{StmtReply}
 use Rattle.interaction.specs.Talk.{Got, Says, Hears, Asks, Over}
 use Rattle.session_talk.specs.declared.actions.Action.{Action}
 use Rattle.session_talk.specs.declared.actions.Ask.{Ask}
@@ -15,7 +16,9 @@ use Rattle.session_talk.specs.declared.ends.SessionEnd.TheVariants as end
 use Rattle.session_talk.specs.declared.inputs.Input.{Input}
 use Rattle.session_talk.specs.declared.inputs.Input.TheVariants as input
 use Rattle.session_talk.specs.Logins.{faulted}
+use Rattle.session_talk.specs.Statements.{no_salt}
 use Rattle.session_talk.specs.Talk.{Begins, Own, Question, SessionTalk}
+use Rattle.stmt_rules.specs.declared.statement.Statement.{Statement}
 
 -- ## Sequence ids
 
@@ -129,6 +132,19 @@ is_settled_or_stale (input.Stale evidences) = true
 is_settled_or_stale (input.Settled reply) = true
 is_settled_or_stale _ = false
 
+abbrev pub is_prepared : Input → Bool
+is_prepared (input.Prepared prepared) = true
+is_prepared _ = false
+
+abbrev pub is_ran : Input → Bool
+is_ran (input.Ran reply) = true
+is_ran _ = false
+
+abbrev pub is_ran_or_stale : Input → Bool
+is_ran_or_stale (input.StaleStatement statement) = true
+is_ran_or_stale (input.Ran reply) = true
+is_ran_or_stale _ = false
+
 -- a session that has ended isn't answered; one that has failed takes anything, and fails again
 abbrev pub is_failure : SessionEnd → Bool
 is_failure end.Memory = true
@@ -148,6 +164,11 @@ takes (Own (ask.Check look evidences)) (input.Checked checked) = true
 takes (Own (ask.Settle checked flags)) (input.Stale evidences) = true
 takes (Own (ask.Settle checked flags)) (input.Settled reply) = true
 takes (Own (ask.SettleLocked user evidences flags)) (input.Settled reply) = true
+takes (Own (ask.Prepare look statement salt actor)) (input.Prepared prepared) = true
+takes (Own (ask.Commit prepared actor)) (input.StaleStatement statement) = true
+takes (Own (ask.Commit prepared actor)) (input.Ran reply) = true
+takes (Own (ask.CommitLocked statement salt actor)) (input.Ran reply) = true
+takes (Own (ask.CommitPlain statement actor)) (input.Ran reply) = true
 takes _ _ = false
 
 -- an input answers a question, as far as it can be tested
@@ -159,16 +180,39 @@ answers (Own (ask.Renew who)) given = is_look given
 answers (Own (ask.Check look evidences)) given = is_checked given
 answers (Own (ask.Settle checked flags)) given = is_settled_or_stale given
 answers (Own (ask.SettleLocked user evidences flags)) given = is_settled given
+answers (Own (ask.Prepare look statement salt actor)) given = is_prepared given
+answers (Own (ask.Commit prepared actor)) given = is_ran_or_stale given
+answers (Own (ask.CommitLocked statement salt actor)) given = is_ran given
+answers (Own (ask.CommitPlain statement actor)) given = is_ran given
 answers _ given = false
 
 -- what is given back is what was asked about
 abbrev pub IsFitting : Question → Input → Type 0
 IsFitting (Own (ask.Check look evidences)) (input.Checked checked) = checked ≡ record { look = look; evidences = evidences }
 IsFitting (Own (ask.Settle checked flags)) (input.Stale evidences) = evidences ≡ checked.evidences
+IsFitting (Own (ask.Prepare look statement salt actor)) (input.Prepared prepared) =
+    prepared ≡ record { look = look; statement = statement; salt = salt; actor = actor }
+IsFitting (Own (ask.Commit prepared actor)) (input.StaleStatement statement) = statement ≡ prepared.statement
 IsFitting _ _ = Unit {0}
 
+-- a statement was executed with this salt for this account, at some reading of the clock and some count of faults of the
+-- keeper of the accounts
+abbrev pub Executes : Statement → (salt : List ℕ) → (actor : ℕ) → StmtReply → List Entry → Type 0
+Executes statement salt actor reply added =
+    (reading : ℕ) × (count : ℕ) × (called : Bool) × (failed : Bool)
+    × (added ≡ Executed (record {
+      statement = statement;
+      salt = salt;
+      actor = actor;
+      reading = reading;
+      count = count;
+      called = called;
+      failed = failed;
+      reply = reply;
+    }) ∷ [])
+
 -- The entries of an answer: a look has one and a reply has one, by some reading of the clock. A nonce, the outcome of a
--- check and a stale answer have none.
+-- check, a statement that is prepared and a stale answer have none.
 abbrev pub Adds : Question → Input → List Entry → Type 0
 Adds (Own (ask.Observe who)) (input.Looked look) added = added ≡ Observed who look ∷ []
 Adds (Own (ask.Renew who)) (input.Looked look) added = added ≡ Observed who look ∷ []
@@ -176,6 +220,9 @@ Adds (Own (ask.Settle checked flags)) (input.Settled reply) added =
     (reading : ℕ) × (added ≡ Attempted (record { user = checked.look.user; evidences = checked.evidences; flags = flags; reading = reading; reply = reply }) ∷ [])
 Adds (Own (ask.SettleLocked user evidences flags)) (input.Settled reply) added =
     (reading : ℕ) × (added ≡ Attempted (record { user = user; evidences = evidences; flags = flags; reading = reading; reply = reply }) ∷ [])
+Adds (Own (ask.Commit prepared actor)) (input.Ran reply) added = Executes prepared.statement prepared.salt actor reply added
+Adds (Own (ask.CommitLocked statement salt actor)) (input.Ran reply) added = Executes statement salt actor reply added
+Adds (Own (ask.CommitPlain statement actor)) (input.Ran reply) added = Executes statement no_salt actor reply added
 Adds _ _ added = added ≡ []
 
 -- a session that has begun puts the question

@@ -1,9 +1,10 @@
 //! What a session does next.
 
 use crate::ends::SessionEnd;
-use account_history::Who;
+use account_history::{Prepared, Who};
 use factor_chain::{Checked, Evidences, Look};
 use lg_base::{Bytes, Items};
+use stmt_rules::Statement;
 
 /// What a session asks for. Exactly one answer is given to it.
 #[derive(Debug, Drop)]
@@ -33,6 +34,30 @@ pub enum Ask {
         user: Bytes,
         evidences: Evidences,
         flags: u32,
+    },
+    /// The preparing of a CREATE USER or an ALTER USER on a look at the account that it is about, for the account with
+    /// the number `actor`.
+    Prepare {
+        look: Look,
+        statement: Statement,
+        salt: [u8; 20],
+        actor: u64,
+    },
+    /// The execution of a statement that was prepared.
+    Commit {
+        prepared: Prepared,
+        actor: u64,
+    },
+    /// The execution of a CREATE USER or an ALTER USER that is prepared in the same step.
+    CommitLocked {
+        statement: Statement,
+        salt: [u8; 20],
+        actor: u64,
+    },
+    /// The execution of a statement that has nothing to prepare.
+    CommitPlain {
+        statement: Statement,
+        actor: u64,
     },
     /// Nothing: the session has ended.
     Ended(SessionEnd),

@@ -1,8 +1,9 @@
 //! What a session is given.
 
-use account_history::Reply;
+use account_history::{Prepared, Reply, StmtReply};
 use factor_chain::{Checked, Evidences, Look};
 use packet_frame::{FrameFault, Packet};
+use stmt_rules::Statement;
 
 /// The answer to what a session asked for last.
 #[derive(Debug, Drop)]
@@ -28,4 +29,11 @@ pub enum Input {
     Stale(Evidences),
     /// The attempt was settled.
     Settled(Reply),
+    /// The statement was prepared on the look.
+    Prepared(Prepared),
+    /// The statement wasn't executed, since what it was prepared on may have changed since the look. The statement is
+    /// handed back.
+    StaleStatement(Statement),
+    /// The statement was executed, or refused.
+    Ran(StmtReply),
 }

@@ -1,8 +1,9 @@
 //! Laws of the model. Each function does nothing: its contract is the law.
 
 ghost use Rattle.session_talk.specs.Transcript.{WiredIsOwed};
+ghost use Rattle.session_talk.specs.Doable.{AsksCanBeDone};
 ghost use Rattle.session_talk.specs.Hearing.{ReadingIsHeard};
-ghost use Rattle.session_talk.specs.Laws.{AsksAreAnswered, ConversationsAreRuns, OwedGoesOn, ReadingIsDetermined, RunsAreOwed, RunsAreTranscripts, RunsEndAsOwed, SessionsAreBounded, StaleChangesNothing, WhatFitsIsAsked, WiredGoesOn};
+ghost use Rattle.session_talk.specs.Laws.{AsksAreAnswered, ConversationsAreRuns, OwedGoesOn, ReadingIsDetermined, RunsAreOwed, RunsAreTranscripts, RunsEndAsOwed, SessionsAreBounded, StaleChangesNothing, StaleStatementsChangeNothing, WhatFitsIsAsked, WiredGoesOn};
 
 /// What is owed goes on with further packets and answers, and over bytes however they are cut.
 pub fn what_is_owed_goes_on()
@@ -27,9 +28,10 @@ pub fn conversations_are_runs()
     ensures { ConversationsAreRuns }
 {}
 
-/// A stale answer changes nothing of what is sent.
+/// A stale answer changes nothing of what is sent: not for an attempt, nor for a statement.
 pub fn stale_changes_nothing()
-    ensures { StaleChangesNothing }
+    ensures attempts { StaleChangesNothing }
+    ensures statements { StaleStatementsChangeNothing }
 {}
 
 /// What is owed over bytes is what is owed for the packets among them, and the error of a fault of framing.
@@ -61,7 +63,14 @@ pub fn asks_are_answered()
     ensures fits { WhatFitsIsAsked }
 {}
 
-/// A session asks at most seven questions between two packets.
+/// A session asks for what can be done: each statement in an ask is one that a text is read to, and each salt is of the
+/// alphabet of salts.
+#[tactic(auto, using(crate::proofs::Putting::asks_can_be_done))]
+pub fn asks_can_be_done()
+    ensures { AsksCanBeDone }
+{}
+
+/// A session asks at most eight questions between two packets.
 pub fn sessions_are_bounded()
     ensures { SessionsAreBounded }
 {}

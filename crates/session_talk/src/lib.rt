@@ -15,8 +15,10 @@ pub mod attempts;
 pub mod ends;
 pub mod inputs;
 pub mod laws;
+pub mod open_session;
 
 pub use actions::{Action, Ask};
 pub use attempts::{Attempting, Claim};
 pub use ends::SessionEnd;
 pub use inputs::Input;
+pub use open_session::OpenSession;

@@ -1,5 +1,5 @@
 -- The client of a session stays its peer, whatever happens.
-use Rattle.std.proofs.Common.{◌≡◌, ◌≢◌, refl, ap, sym, ◌∙◌, subst, ℕ, zero, suc, ◌==◌, ◌⊎◌, inl, inr, if◌then◌else◌, Bool, true, false, List, [], ◌∷◌, ◌++◌, take, drop, append-nil, append_assoc, Option, Some, None, is_some, option_map}
+use Rattle.std.proofs.Common.{◌≡◌, ◌≢◌, refl, ap, sym, ◌∙◌, subst, ℕ, zero, suc, ◌==◌, ◌⊎◌, inl, inr, if◌then◌else◌, Bool, true, false, List, [], ◌∷◌, ◌++◌, take, drop, append-nil, append_assoc, Option, Some, None, is_some, option_map, Result, Ok, Err}
 use Rattle.std.proofs.lemmas.Bool.Decides.{eqb_tells}
 use Rattle.std.proofs.lemmas.List.{take-append-drop}
 use Rattle.session_talk.specs.Logins.{session}
@@ -20,11 +20,13 @@ use Rattle.session_world.specs.declared.running.Task.TheVariants.{Answers, GoesD
 use Rattle.session_world.specs.Events.{all_doings}
 use Rattle.session_world.specs.Going.{Gone, going}
 use Rattle.session_world.specs.Lines.{sends_in}
-use Rattle.session_world.specs.Replays.{Came, Printed, Replay, after_events, all_down, all_up, alters, begins, begun_with, brings, cut_off, cuts_off, doing, downs, followed_by, gets, happens, idles, is_cut_off, is_in, most_turns, nothing, running, runs, sends, task, task_of, turns, ups, writes}
+use Rattle.session_talk.specs.Statements.{statement_in}
+use Rattle.stmt_rules.specs.declared.statement.Statement.{Statement}
+use Rattle.session_world.specs.Replays.{Came, Printed, Replay, administers, after_events, all_down, all_up, alters, begins, begun_with, brings, cut_off, cuts_off, doing, downs, followed_by, gets, happens, idles, is_cut_off, is_in, most_turns, nothing, running, runs, sends, task, task_of, turns, ups, writes}
 use Rattle.client_wire.specs.UnderWay.{Client, claim_of, client_after, new_client, sent_to, with_client}
 use Rattle.packet_stream.specs.Queue.{has_bytes}
 use Rattle.session_world.specs.Transcripts.{bytes_of, lines_of, session_bytes, session_lines}
-use Rattle.session_world.specs.Worlds.{Doing, GoesOn, IsIdle, Move, Place, ToCall, ToIdle, ToLeave, ToOpen, ToSend, ToSet, World, after_all, calling, does, is_over, is_over_at, is_there, is_there_at, leaving, move, moved, no_bytes, opening, place_of, sending, waits, waits_at}
+use Rattle.session_world.specs.Worlds.{Doing, GoesOn, IsIdle, Move, Place, ToCall, ToExecute, ToFail, ToIdle, ToLeave, ToOpen, ToSend, ToSet, World, after_all, calling, does, is_over, is_over_at, is_there, is_there_at, leaving, move, moved, no_bytes, opening, place_of, sending, waits, waits_at}
 use Rattle.session_world.proofs.Doing.{after_append, each_append}
 use Rattle.session_world.proofs.Following.{sends_append}
 use Rattle.session_world.proofs.Pairing.{Holds, after_doing}
@@ -70,6 +72,8 @@ module _ (number : ℕ) (w : World) where
   other_brings : (doing : Doing) → (IsSending doing → ⊥) → bytes_of number (move w doing) ≡ []
   unfolding IsSending
   other_brings (ToSet reading) not-sent = refl
+  other_brings ToFail not-sent = refl
+  other_brings (ToExecute statement) not-sent = refl
   other_brings (ToOpen other) not-sent = opening_brings other (w.places other)
   other_brings (ToSend other bytes) not-sent = absurd (not-sent tt)
   other_brings (ToCall other calls) not-sent = calling_brings other calls (w.places other)
@@ -408,11 +412,17 @@ module _ (number : ℕ) where
   keeps_running r other GoesUp = keeps_runs most_turns r other
   keeps_running r other CutsOff = keeps_runs most_turns r other
 
+  keeps_administers : (r : Replay) (read : Result Statement ℕ) → Keeps number r (administers r read)
+  unfolding IsSending
+  keeps_administers r (Err place) = let k : Keeps number r (nothing r) = keeps_nothing r in record { world_is = k.world_is; holds = k.holds }
+  keeps_administers r (Ok statement) = keeps_doing r (ToExecute statement) (λ is. is)
+
   -- ## All events
 
   pub keeps_happening : (r : Replay) (what : Event) → Keeps number r (happens r what)
   unfolding IsSending
   keeps_happening r (event.Clock reading) = keeps_doing r (ToSet reading) (λ is. is)
+  keeps_happening r (event.Admin text) = keeps_administers r (statement_in text)
   keeps_happening r (event.Open other) = keeps_doing r (ToOpen other) (λ is. is)
   keeps_happening r (event.Client other flags user secrets) = keeps_begins r other (claim_of flags user secrets) refl
   keeps_happening r (event.FromPeer other bytes) = keeps_sends r other bytes (r.clients other) refl
@@ -424,6 +434,7 @@ module _ (number : ℕ) where
   keeps_happening r (event.Command other payload) = keeps_writes r other payload (r.clients other) refl
   keeps_happening r (event.Close other) = keeps_doing r (ToLeave other peer.Closed) (λ is. is)
   keeps_happening r (event.Cut other) = keeps_doing r (ToLeave other peer.Failed) (λ is. is)
+  keeps_happening r event.FailKeeper = keeps_doing r ToFail (λ is. is)
 
   abbrev came_after : Replay → List Event → Came
   came_after r events = record { replay = after_events r events; printed = []; doings = all_doings r events }

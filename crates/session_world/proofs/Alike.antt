@@ -119,26 +119,26 @@ greeting_short id nonce size = greeting_length (greeting_of id nonce) version_le
 -- ## A session
 
 module _ (claim : Claim) (local : claim.local ≡ true) where
-  outcome_told : (k : Heard → client.Talk) → IsReady k → (user : List ℕ) (reply : Reply) → HasWords reply → TellsEnd (client.Hears k) (outcome user reply)
-  outcome_told k ready user (Opened account host) words = (ok_short, Accepts, ok-heard, end.Opened, ready.ok)
-  outcome_told k ready user (Sandbox account host) words = (ok_short, Accepts, ok-heard, end.Opened, ready.ok)
-  outcome_told k ready user (Blocked rule left) words = (
-    blocked_short user rule.time left rule.attempts words.0 words.1 words.2,
+  outcome_told : (k : Heard → client.Talk) → IsReady k → (a : Attempting) (reply : Reply) → HasWords reply → TellsEnd (client.Hears k) (outcome a reply)
+  outcome_told k ready a (Opened account host) words = (ok_short, Accepts, ok-heard, end.Opened, ready.ok)
+  outcome_told k ready a (Sandbox account host) words = (ok_short, Accepts, ok-heard, end.Opened, ready.ok)
+  outcome_told k ready a (Blocked rule left) words = (
+    blocked_short a.user rule.time left rule.attempts words.0 words.1 words.2,
     Refuses 3955,
-    error-heard (code.Blocked user (days_of rule.time) left rule.attempts),
+    error-heard (code.Blocked a.user (days_of rule.time) left rule.attempts),
     end.Refused 3955,
     ready.err 3955,
   )
-  outcome_told k ready user (Denied using_password) words =
-      (denied_short user using_password, Refuses 1045, error-heard (code.Denied user using_password), end.Refused 1045, ready.err 1045)
-  outcome_told k ready user Locked words = (locked_short user, Refuses 3118, error-heard (code.Locked user), end.Refused 3118, ready.err 3118)
-  outcome_told k ready user MustChange words = (must_change_short, Refuses 1862, error-heard code.MustChange, end.Refused 1862, ready.err 1862)
+  outcome_told k ready a (Denied using_password) words =
+      (denied_short a.user using_password, Refuses 1045, error-heard (code.Denied a.user using_password), end.Refused 1045, ready.err 1045)
+  outcome_told k ready a Locked words = (locked_short a.user, Refuses 3118, error-heard (code.Locked a.user), end.Refused 3118, ready.err 3118)
+  outcome_told k ready a MustChange words = (must_change_short, Refuses 1862, error-heard code.MustChange, end.Refused 1862, ready.err 1862)
 
   proved_fits : (k : Heard → client.Talk) → IsReady k → (a : Attempting) (look : Look) (given : Evidence) → Fits (proved a look given) (client.Hears k)
   unfolding on_checked on_settled on_look on_locked
   proved_fits k ready a look given = λ checked. (
-    (λ evidences again checked-again. ((λ evidences-again. outcome_told k ready a.user), outcome_told k ready a.user)),
-    outcome_told k ready a.user,
+    (λ evidences again checked-again. ((λ evidences-again. outcome_told k ready a), outcome_told k ready a)),
+    outcome_told k ready a,
   )
 
   caching_fits : (k : Heard → client.Talk) → IsCaching claim k → (a : Attempting) (look : Look) (nonce bytes : List ℕ) (known : Bool) →

@@ -7,6 +7,9 @@ use Rattle.factor_chain.specs.CheckedOf.{CheckedOf}
 use Rattle.factor_chain.specs.declared.credentials.Look.{Look}
 use Rattle.factor_chain.specs.declared.evidence_list.Evidence.{Evidence}
 use Rattle.account_history.specs.declared.entries.Reply.{Reply}
+use Rattle.account_history.specs.declared.entries.StmtReply.{StmtReply}
+use Rattle.account_history.specs.Preparing.{PreparedOf}
+use Rattle.stmt_rules.specs.declared.statement.Statement.{Statement}
 use Rattle.account_history.specs.declared.entries.Who.{Who}
 use Rattle.session_talk.proofs.Asking.{asks_are_answered}
 use Rattle.session_talk.specs.Logins as login
@@ -17,7 +20,7 @@ use Rattle.session_talk.specs.declared.actions.Ask.TheVariants as ask
 use Rattle.session_talk.specs.declared.inputs.Input.{Input}
 use Rattle.session_talk.specs.declared.inputs.Input.TheVariants as input
 use Rattle.world_table.specs.Drawing.{digits, drawn_nonce}
-use Rattle.session_world.specs.Leading.{IsLookAsked}
+use Rattle.session_world.specs.Leading.{IsExecutionAsked, IsLookAsked}
 
 -- ## Nonces and looks
 
@@ -76,3 +79,28 @@ settled_answers next t checked flags reply begun asks = answers_so next t (ask.S
 pub locked_answers : (next : ℕ) (t : SessionTalk) (user : List ℕ) (evidences : List Evidence) (flags : ℕ) (reply : Reply) → IsBegun t →
     asked next t ≡ ask.SettleLocked user evidences flags → IsTrue (is_answer t (input.Settled reply))
 locked_answers next t user evidences flags reply begun asks = answers_so next t (ask.SettleLocked user evidences flags) (input.Settled reply) begun asks (refl, tt)
+
+-- ## Statements
+
+pub prepared_answers : (next : ℕ) (t : SessionTalk) (look : Look) (statement : Statement) (salt : List ℕ) (actor : ℕ) (prepared : PreparedOf) → IsBegun t →
+    asked next t ≡ ask.Prepare look statement salt actor → prepared ≡ record { look = look; statement = statement; salt = salt; actor = actor } →
+    IsTrue (is_answer t (input.Prepared prepared))
+prepared_answers next t look statement salt actor prepared begun asks is =
+    answers_so next t (ask.Prepare look statement salt actor) (input.Prepared prepared) begun asks (refl, is)
+
+pub stale_statement_answers : (next : ℕ) (t : SessionTalk) (prepared : PreparedOf) (actor : ℕ) (statement : Statement) → IsBegun t →
+    asked next t ≡ ask.Commit prepared actor → statement ≡ prepared.statement → IsTrue (is_answer t (input.StaleStatement statement))
+stale_statement_answers next t prepared actor statement begun asks is =
+    answers_so next t (ask.Commit prepared actor) (input.StaleStatement statement) begun asks (refl, is)
+
+pub committed_answers : (next : ℕ) (t : SessionTalk) (prepared : PreparedOf) (actor : ℕ) (reply : StmtReply) → IsBegun t →
+    asked next t ≡ ask.Commit prepared actor → IsTrue (is_answer t (input.Ran reply))
+committed_answers next t prepared actor reply begun asks = answers_so next t (ask.Commit prepared actor) (input.Ran reply) begun asks (refl, tt)
+
+pub executed_answers : (next : ℕ) (t : SessionTalk) (statement : Statement) (salt : List ℕ) (actor : ℕ) (reply : StmtReply) → IsBegun t →
+    IsExecutionAsked (asked next t) statement salt actor → IsTrue (is_answer t (input.Ran reply))
+executed_answers next t statement salt actor reply begun is_asked = by_ask (asked next t) refl is_asked where
+  by_ask : (a : Ask) → asked next t ≡ a → IsExecutionAsked a statement salt actor → IsTrue (is_answer t (input.Ran reply))
+  by_ask (ask.CommitLocked what salted asking) asks is = answers_so next t (ask.CommitLocked what salted asking) (input.Ran reply) begun asks (refl, tt)
+  by_ask (ask.CommitPlain what asking) asks is = answers_so next t (ask.CommitPlain what asking) (input.Ran reply) begun asks (refl, tt)
+  by_ask _ asks is = absurd is

@@ -1,16 +1,19 @@
--- A session reads a packet or rests after at most eight turns, wherever it stands.
+-- A session reads a packet or rests after at most nine turns, wherever it stands.
 use Rattle.std.proofs.Common.{◌≡◌, ◌<◌, sym, refl, subst, ℕ, zero, suc, ◌-◌, Bool, true, false, IsTrue, List, arith}
 use Rattle.factor_chain.specs.CheckedOf.{CheckedOf}
 use Rattle.factor_chain.specs.declared.evidence_list.Evidence.{Evidence}
 use Rattle.packet_frame.specs.declared.packets.FrameFault.{FrameFault}
 use Rattle.packet_frame.specs.declared.packets.FrameFault.TheVariants.{TooLarge, OutOfOrder, Memory as NoMemory}
 use Rattle.interaction.specs.Talk.{Says, Hears, Asks, Over}
-use Rattle.session_engine.specs.Standing.{talk_of, talk_of_session}
+use Rattle.session_engine.specs.Standing.{stage_talk, talk_of, talk_of_session}
 use Rattle.session_engine.specs.declared.phases.Phase.{Phase}
 use Rattle.session_engine.specs.declared.phases.Phase.TheVariants as phase
 use Rattle.session_engine.specs.declared.session.Session.{Session}
+use Rattle.session_engine.specs.declared.stages.Stage.{Stage}
+use Rattle.session_engine.specs.declared.stages.Stage.TheVariants as stage
 use Rattle.session_talk.specs.Bounds.{Within}
-use Rattle.session_talk.specs.Logins.{after_stale, claimed, faulted, heard_by, is_named, outcome, refusal_of, settling_or}
+use Rattle.session_talk.specs.Logins.{after_stale, claimed, commands_left, decided, faulted, heard_by, is_named, outcome, settling_or}
+use Rattle.session_talk.specs.Statements as stating
 use Rattle.session_talk.specs.Talk.{SessionTalk, on_start}
 use Rattle.session_talk.specs.Turns.{heard, is_answer, rest}
 use Rattle.session_talk.specs.declared.attempts.Attempting.{Attempting}
@@ -18,8 +21,9 @@ use Rattle.session_talk.specs.declared.ends.SessionEnd.{SessionEnd}
 use Rattle.session_talk.specs.declared.ends.SessionEnd.TheVariants as end
 use Rattle.session_talk.specs.declared.inputs.Input.{Input}
 use Rattle.session_talk.specs.declared.inputs.Input.TheVariants as input
-use Rattle.session_talk.proofs.Bounding.{answered_within, checking_within, claimed_within, clear_within, command_within, locking_within, renewing_within, sessions_are_bounded, switched_within}
-use Rattle.session_talk.proofs.Words.{drawn_all, look_all, settled_all, switched_to}
+use Rattle.session_talk.specs.declared.open_session.OpenSession.{OpenSession}
+use Rattle.session_talk.proofs.Bounding.{answered_within, checking_within, claimed_within, clear_within, command_within, commands_within, committing_locked_within, committing_within, late_within, locking_within, looking_again_within, looking_at_within, preparing_within, ran_within, renewing_within, salting_within, sessions_are_bounded, switched_within}
+use Rattle.session_talk.proofs.Words.{drawn_all, look_all, ran_locked_all, settled_all, switched_to}
 use Rattle.session_world.specs.Lasting.{Lasts, Steps, StepsOn}
 
 -- ## What is left of a session
@@ -27,31 +31,55 @@ use Rattle.session_world.specs.Lasting.{Lasts, Steps, StepsOn}
 -- settlings, and what a stale answer leads to
 
 settling_within : (n : ℕ) (stale : SessionTalk) → Within n stale → (a : Attempting) (checked : CheckedOf) → Within (suc n) (settling_or stale a checked)
-settling_within n stale within a checked = settled_all (Within n) tt stale (outcome a.user) within (λ reply. answered_within n (refusal_of a.user reply))
+settling_within n stale within a checked = settled_all (Within n) tt stale (outcome a) within (λ reply. answered_within n (decided a reply))
 
 stale_within : (n : ℕ) (again : Bool) (a : Attempting) (evidences : List Evidence) → Within (suc (suc (suc (suc n)))) (after_stale again a evidences)
 stale_within n false a evidences = renewing_within n a evidences
 stale_within n true a evidences = locking_within (suc (suc (suc n))) a evidences
 
-phase_lasts : (p : Phase) → Lasts 8 (talk_of p)
+-- statements
+
+module _ (opened : OpenSession) where
+  abbrev goes_on : OpenSession → SessionTalk
+  goes_on = commands_left opened.left
+
+  all : (n : ℕ) (later : OpenSession) → Within n (goes_on later)
+  all n later = commands_within opened.left n later
+
+  stage_within : (s : Stage) → Within 8 (stage_talk opened s)
+  unfolding stage_talk
+  stage_within (stage.Looking statement) = looking_at_within goes_on all 0 opened statement
+  stage_within (stage.Salting look statement) = salting_within goes_on all 1 opened look statement
+  stage_within (stage.Preparing again look statement salt) =
+      preparing_within goes_on all 6 (stating.after_stale goes_on again opened statement.value salt) (late_within goes_on all 2 again opened statement.value salt)
+      opened look.value statement.value salt
+  stage_within (stage.Committing again salt prepared) =
+      committing_within goes_on all 7 (stating.after_stale goes_on again opened prepared.value.statement salt)
+      (late_within goes_on all 3 again opened prepared.value.statement salt) opened prepared.value
+  stage_within (stage.Renewing statement salt) = looking_again_within goes_on all 4 opened statement salt
+  stage_within (stage.Locking statement salt) = committing_locked_within goes_on all 7 opened statement.value salt
+  stage_within (stage.Plain statement) = ran_locked_all (Within 7) tt (stating.ran goes_on opened) (ran_within goes_on all 7 opened)
+
+phase_lasts : (p : Phase) → Lasts 9 (talk_of p)
 unfolding talk_of on_start heard_by
 phase_lasts (phase.Fresh id) = sessions_are_bounded id
 phase_lasts (phase.Greeted nonce) = sessions_are_bounded 0 (input.Start nonce)
 phase_lasts (phase.Looking a claim) =
-    look_all (Within 6) tt (λ look. claimed a claim look (is_named claim look)) (λ look. claimed_within a claim look (is_named claim look))
-phase_lasts (phase.Switching a look) = drawn_all (Within 6) tt (switched_to a look) (switched_within a look)
+    look_all (Within 7) tt (λ look. claimed a claim look (is_named claim look)) (λ look. claimed_within a claim look (is_named claim look))
+phase_lasts (phase.Switching a look) = drawn_all (Within 7) tt (switched_to a look) (switched_within a look)
 phase_lasts (phase.Switched a look nonce) = switched_within a look nonce
 phase_lasts (phase.Clearing a look) = clear_within a look
-phase_lasts (phase.Checking a again look evidences) = checking_within 5 (after_stale again a evidences.value) (stale_within 1 again a evidences.value) a look.value evidences.value
+phase_lasts (phase.Checking a again look evidences) = checking_within 6 (after_stale again a evidences.value) (stale_within 2 again a evidences.value) a look.value evidences.value
 phase_lasts (phase.Settling a again checked) =
-    settling_within 6 (after_stale again a checked.value.evidences) (stale_within 2 again a checked.value.evidences) a checked.value
-phase_lasts (phase.Renewing a evidences) = renewing_within 3 a evidences
-phase_lasts (phase.Locking a evidences) = locking_within 6 a evidences.value
-phase_lasts (phase.Commanding left) = command_within left
+    settling_within 7 (after_stale again a checked.value.evidences) (stale_within 3 again a checked.value.evidences) a checked.value
+phase_lasts (phase.Renewing a evidences) = renewing_within 4 a evidences
+phase_lasts (phase.Locking a evidences) = locking_within 7 a evidences.value
+phase_lasts (phase.Commanding opened) = command_within opened.left opened
+phase_lasts (phase.Executing opened stage) = stage_within opened stage
 phase_lasts (phase.Over how) = tt
 
--- a session takes at most eight turns until it reads a packet or rests
-pub session_lasts : (s : Session) → Lasts 8 (talk_of_session s)
+-- a session takes at most nine turns until it reads a packet or rests
+pub session_lasts : (s : Session) → Lasts 9 (talk_of_session s)
 session_lasts s = phase_lasts s.phase
 
 -- ## A turn

@@ -18,7 +18,9 @@ use Rattle.session_world.specs.declared.calls.Peer.{Peer}
 use Rattle.session_world.specs.declared.calls.Peer.TheVariants.{Open, Closed, Failed}
 use Rattle.session_world.specs.Going.{Gone, closing, going, unread_by}
 use Rattle.session_world.specs.Worlds.{GoesOn, IsIdle, Place, World, calling, moved, waits, waits_at}
+use Rattle.session_talk.specs.Statements.{no_salt}
 use Rattle.world_table.specs.Drawing.{drawn_nonce}
+use Rattle.world_table.specs.Statements.{executed, with_execution}
 use Rattle.world_table.specs.Table.{Common, attempted, is_stale, replied, seen, with_draw, with_entry}
 use Rattle.session_world.proofs.Idling.{if_is}
 
@@ -62,6 +64,16 @@ going_called peer c next (Asks (Own (ask.Settle checked flags)) k) stream =
     (k (input.Settled (replied c checked.look.user checked.evidences flags))) stream)
 going_called peer c next (Asks (Own (ask.SettleLocked user evidences flags)) k) stream =
     going_called peer (with_entry c (attempted c user evidences flags)) next (k (input.Settled (replied c user evidences flags))) stream
+going_called peer c next (Asks (Own (ask.Prepare look statement salt actor)) k) stream =
+    going_called peer c next (k (input.Prepared (record { look = look; statement = statement; salt = salt; actor = actor }))) stream
+going_called peer c next (Asks (Own (ask.Commit prepared actor)) k) stream =
+    if_is WaitsNot (is_stale c prepared.look) _ _ (going_called peer c next (k (input.StaleStatement prepared.statement)) stream)
+    (going_called peer (with_execution c (executed c prepared.statement prepared.salt actor)) next
+    (k (input.Ran (executed c prepared.statement prepared.salt actor).reply)) stream)
+going_called peer c next (Asks (Own (ask.CommitLocked statement salt actor)) k) stream =
+    going_called peer (with_execution c (executed c statement salt actor)) next (k (input.Ran (executed c statement salt actor).reply)) stream
+going_called peer c next (Asks (Own (ask.CommitPlain statement actor)) k) stream =
+    going_called peer (with_execution c (executed c statement no_salt actor)) next (k (input.Ran (executed c statement no_salt actor).reply)) stream
 going_called peer c next (Asks _ k) stream = refl
 going_called peer c next (Over how) stream = refl
 

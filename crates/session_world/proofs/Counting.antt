@@ -222,4 +222,8 @@ reads_all reply words rest commands (Hears false k) (client.Hears k') next place
 reads_all reply words rest commands (Hears false k) (client.Over how) next place stream owns fits nonces used found tied = absurd fits
 reads_all reply words rest commands (Asks (Own (ask.Read want)) k) c next place stream owns fits nonces used found tied = absurd fits
 reads_all reply words rest commands (Asks (Own (ask.Ended how)) k) c next place stream owns fits nonces used found tied = absurd fits
+reads_all reply words rest commands (Asks (Own (ask.Prepare look statement salt actor)) k) c next place stream owns fits nonces used found tied = absurd fits
+reads_all reply words rest commands (Asks (Own (ask.Commit prepared actor)) k) c next place stream owns fits nonces used found tied = absurd fits
+reads_all reply words rest commands (Asks (Own (ask.CommitLocked statement salt actor)) k) c next place stream owns fits nonces used found tied = absurd fits
+reads_all reply words rest commands (Asks (Own (ask.CommitPlain statement actor)) k) c next place stream owns fits nonces used found tied = absurd fits
 reads_all reply words rest commands _ c next place stream owns fits nonces used found tied = absurd (no_reply owns reply used found)

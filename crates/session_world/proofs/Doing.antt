@@ -1,16 +1,18 @@
 -- What events come to is what they do to the world of sessions.
-use Rattle.std.proofs.Common.{◌≡◌, refl, ap, sym, ◌∙◌, subst, ℕ, zero, suc, ◌==◌, if◌then◌else◌, Bool, true, false, List, [], ◌∷◌, ◌++◌, append-nil, append_assoc, Option, Some, None, is_some}
+use Rattle.std.proofs.Common.{◌≡◌, refl, ap, sym, ◌∙◌, subst, ℕ, zero, suc, ◌==◌, if◌then◌else◌, Bool, true, false, List, [], ◌∷◌, ◌++◌, append-nil, append_assoc, Option, Some, None, is_some, Result, Ok, Err}
 use Rattle.login_client.specs.declared.claims.Claim.{Claim}
 use Rattle.login_client.specs.declared.ends.LoginEnd.{LoginEnd}
 use Rattle.login_client.specs.declared.ends.LoginEnd.TheVariants as end
 use Rattle.script_text.specs.declared.event.Event.{Event}
 use Rattle.script_text.specs.declared.event.Event.TheVariants as event
+use Rattle.session_talk.specs.Statements.{statement_in}
+use Rattle.stmt_rules.specs.declared.statement.Statement.{Statement}
 use Rattle.session_world.specs.Events.{AreDone, EventsAreDone, HistoriesAreLegal, SessionsAreTranscripts, all_doings, all_printed, lines_among, lines_for}
-use Rattle.session_world.specs.Replays.{Came, Of, Printed, Replay, Tells, after_events, all_down, all_up, alters, begins, brings, cut_off, doing, downs, followed_by, happens, idles, is_cut_off, is_in, most_turns, new_replay, nothing, of_session, running, runs, sends, task, tells_if, turns, ups, writes}
+use Rattle.session_world.specs.Replays.{Came, NoStatement, Of, Printed, Replay, Tells, administers, after_events, all_down, all_up, alters, begins, brings, cut_off, doing, downs, followed_by, happens, idles, is_cut_off, is_in, most_turns, new_replay, nothing, of_session, running, runs, sends, task, tells_if, turns, ups, writes}
 use Rattle.client_wire.specs.UnderWay.{Client, claim_of, result_by, with_client}
 use Rattle.packet_stream.specs.Queue.{has_bytes}
 use Rattle.session_world.specs.Transcripts.{IsHistory, IsTranscript, all_lines, lines_in, lines_of, peer_at, session_bytes, session_lines}
-use Rattle.session_world.specs.Worlds.{Doing, GoesOn, IsIdle, Move, Sets, ToIdle, ToOpen, ToSend, World, after_all, does, is_over_at, is_there_at, move, moved}
+use Rattle.session_world.specs.Worlds.{Doing, GoesOn, IsIdle, Move, Executes, Sets, ToExecute, ToIdle, ToOpen, ToSend, World, after_all, does, is_over_at, is_there_at, move, moved}
 use Rattle.session_world.specs.declared.running.Task.{Task}
 use Rattle.session_world.specs.declared.running.Task.TheVariants.{Answers, GoesDown, GoesUp, CutsOff, Rests}
 use Rattle.world_table.specs.Printing.{Line}
@@ -29,6 +31,7 @@ among_append : (printed more : List Printed) → lines_among (printed ++ more) �
 among_append [] more = refl
 among_append (Of session line ∷ printed) more = ap (λ (rest : List Line). line ∷ rest) (among_append printed more)
 among_append (Tells session how ∷ printed) more = among_append printed more
+among_append (NoStatement ∷ printed) more = among_append printed more
 
 -- a line of one session or of another
 line_if : (test : Bool) (line : Line) (rest first second : List Line) → rest ≡ first ++ second →
@@ -41,6 +44,7 @@ for_append number [] more = refl
 for_append number (Of session line ∷ printed) more =
     line_if (number == session) line (lines_for number (printed ++ more)) (lines_for number printed) (lines_for number more) (for_append number printed more)
 for_append number (Tells session how ∷ printed) more = for_append number printed more
+for_append number (NoStatement ∷ printed) more = for_append number printed more
 
 among_session : (session : ℕ) (lines : List Line) → lines_among (of_session session lines) ≡ lines
 among_session session [] = refl
@@ -65,12 +69,14 @@ for_session number session (line ∷ lines) =
 
 -- the lines of a move are those of what it comes to
 lines_moved : (w : World) (m : Move) → (moved w m).lines ≡ lines_in m
-lines_moved w (Sets reading) = refl
+lines_moved w (Sets common) = refl
+lines_moved w (Executes did) = refl
 lines_moved w (GoesOn session peer bytes g) = refl
 lines_moved w (IsIdle session) = refl
 
 each_moved : (number : ℕ) (w : World) (m : Move) → (if number == (moved w m).session then (moved w m).lines else []) ≡ lines_of number m
-each_moved number w (Sets reading) = none_if (number == 0)
+each_moved number w (Sets common) = none_if (number == 0)
+each_moved number w (Executes did) = refl
 each_moved number w (GoesOn session peer bytes g) = refl
 each_moved number w (IsIdle session) = refl
 
@@ -182,6 +188,10 @@ running_done r number GoesDown = runs_done most_turns r number
 running_done r number GoesUp = runs_done most_turns r number
 running_done r number CutsOff = runs_done most_turns r number
 
+administers_done : (r : Replay) (read : Result Statement ℕ) → IsDone r.world (administers r read)
+administers_done r (Err place) = record { world_is = refl; lines_are = refl; each_is = λ n. refl }
+administers_done r (Ok statement) = doing_done r (ToExecute statement)
+
 begins_done : (r : Replay) (number : ℕ) (claim : Claim) → IsDone r.world (begins r number claim)
 begins_done r number claim =
     either_done r.world (is_some (r.world.places number)) (idles r number) _ (idles_done r number) (move_done r.world (ToOpen number) _)
@@ -213,6 +223,7 @@ writes_done r number payload (Some client) =
 
 event_done : (r : Replay) (event : Event) → IsDone r.world (happens r event)
 event_done r (event.Clock reading) = doing_done r _
+event_done r (event.Admin text) = administers_done r (statement_in text)
 event_done r (event.Open number) = doing_done r _
 event_done r (event.Client number flags user secrets) = begins_done r number (claim_of flags user secrets)
 event_done r (event.FromPeer number bytes) = sends_done r number bytes (r.clients number)
@@ -224,6 +235,7 @@ event_done r (event.Say number text) = writes_done r number (0x03 ∷ text) (r.c
 event_done r (event.Command number payload) = writes_done r number payload (r.clients number)
 event_done r (event.Close number) = doing_done r _
 event_done r (event.Cut number) = doing_done r _
+event_done r event.FailKeeper = doing_done r _
 
 -- ## Over events
 
@@ -248,10 +260,10 @@ events_are_legal openings settings events =
     (histories_are_legal openings settings (all_doings r events)))
 
 pub events_are_transcripts : SessionsAreTranscripts
-events_are_transcripts openings settings events number =
+events_are_transcripts openings settings events number is_session =
     let r : Replay = new_replay openings settings in
     let done : AreDone r events = events_are_done r events in
     let bytes : List ℕ = session_bytes number r.world (all_doings r events) in
     subst (λ (lines : List Line). IsTranscript number (peer_at ((after_events r events).world.places number)) bytes lines) (sym (done.each_is number))
     (subst (λ (w : World). IsTranscript number (peer_at (w.places number)) bytes (session_lines number r.world (all_doings r events))) (sym done.world_is)
-    (sessions_are_transcripts openings settings (all_doings r events) number))
+    (sessions_are_transcripts openings settings (all_doings r events) number is_session))

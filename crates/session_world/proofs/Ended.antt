@@ -1,5 +1,5 @@
 -- A client to which all has come down that its session sent has ended as the reply to the first attempt tells.
-use Rattle.std.proofs.Common.{◌≡◌, refl, ap, sym, ◌∙◌, subst, IsTrue, ℕ, ◌<◌, ◌^◌, Bool, true, List, [], ◌++◌, append-nil, Option, Some, None}
+use Rattle.std.proofs.Common.{◌≡◌, ◌≢◌, refl, ap, sym, ◌∙◌, subst, IsTrue, ℕ, ◌<◌, ◌^◌, Bool, true, List, [], ◌++◌, append-nil, Option, Some, None}
 use Rattle.packet_frame.specs.declared.packets.FrameFault.{FrameFault}
 use Rattle.account_history.specs.Failures.{opens}
 use Rattle.account_history.specs.declared.entries.Entry.{Entry}
@@ -132,21 +132,21 @@ module _ (over : Bool) (client : Client) (sent : List Sent) (bytes : List ℕ) (
 
 -- ## After all events
 
-module _ (done : EventsAreDone) (openings : List Opening) (settings : Settings) (events : List Event) (number : ℕ) where
+module _ (done : EventsAreDone) (openings : List Opening) (settings : Settings) (events : List Event) (number : ℕ) (is_session : number ≢ 0) where
   abbrev doings_over : List Doing
   doings_over = all_doings (new_replay openings settings) events
 
   nonced : IsNonced number (peer_at ((after_all (new_replay openings settings).world doings_over).places number))
       (bytes_over openings settings events number) (lines_over openings settings events number)
   nonced = subst (λ (lines : List Line). IsNonced number (peer_at ((after_all (new_replay openings settings).world doings_over).places number)) (bytes_over openings settings events number) lines)
-      (sym ((done (new_replay openings settings) events).each_is number)) (nonced_transcripts openings settings doings_over number)
+      (sym ((done (new_replay openings settings) events).each_is number)) (nonced_transcripts openings settings doings_over number is_session)
 
 pub ended_once_told : EventsAreDone → EndedOnceTold
-ended_once_told done openings settings events number client reply small is found words all =
+ended_once_told done openings settings events number client reply is_session small is found words all =
     let p = peer_after openings settings events number done client is in
     let sent : List Sent = sends_in (lines_over openings settings events number) in
     let bytes : List ℕ = bytes_over openings settings events number in
-    let n = nonced done openings settings events number in
+    let n = nonced done openings settings events number is_session in
     let (same_sent, same_result) = is_same _ client sent bytes p all in
     has_result _ client sent bytes p all (end_told reply) p.result_is
     (sym same_result
@@ -172,6 +172,6 @@ told_opened Locked opened = absurd (cc)
 told_opened MustChange opened = absurd (cc)
 
 pub opened_once_told : EventsAreDone → OpenedOnceTold
-opened_once_told done openings settings events number client reply small is found opened all =
-    ended_once_told done openings settings events number client reply small is found (opens_words reply opened) all
+opened_once_told done openings settings events number client reply is_session small is found opened all =
+    ended_once_told done openings settings events number client reply is_session small is found (opens_words reply opened) all
     ∙ ap (λ (e : LoginEnd). Some e) (told_opened reply opened)

@@ -1,5 +1,5 @@
 -- After any events a client hears at most six packets more, so that its runs come to rest.
-use Rattle.std.proofs.Common.{◌≡◌, refl, subst, ℕ, zero, suc, ◌+◌, ◌≤◌, ◌==◌, inl, inr, Bool, true, false, if◌then◌else◌, List, [], ◌∷◌, Option, Some, None, is_some, option_map, arith}
+use Rattle.std.proofs.Common.{◌≡◌, refl, subst, ℕ, zero, suc, ◌+◌, ◌≤◌, ◌==◌, inl, inr, Bool, true, false, if◌then◌else◌, List, [], ◌∷◌, Option, Some, None, is_some, option_map, arith, Result, Ok, Err}
 use Rattle.login_client.proofs.Within.{login-within}
 use Rattle.login_client.specs.declared.claims.Claim.{Claim}
 use Rattle.login_client.specs.declared.ends.LoginEnd.{LoginEnd}
@@ -8,10 +8,12 @@ use Rattle.client_wire.specs.Getting.{Got}
 use Rattle.script_text.specs.declared.event.Event.{Event}
 use Rattle.script_text.specs.declared.event.Event.TheVariants as event
 use Rattle.session_world.specs.Events.{RunsComeToRest}
-use Rattle.session_world.specs.Replays.{Came, Replay, after_events, all_down, all_up, begins, brings, bytes_of, cut_off, doing, downs, gets, happens, idles, is_cut_off, is_in, most_turns, new_replay, running, runs, sends, session_of, task, turns, ups, with_sent, writes}
+use Rattle.session_talk.specs.Statements.{statement_in}
+use Rattle.stmt_rules.specs.declared.statement.Statement.{Statement}
+use Rattle.session_world.specs.Replays.{Came, Replay, administers, after_events, all_down, all_up, begins, brings, bytes_of, cut_off, doing, downs, gets, happens, idles, is_cut_off, is_in, most_turns, new_replay, running, runs, sends, session_of, task, turns, ups, with_sent, writes}
 use Rattle.client_wire.specs.UnderWay.{Client, claim_of, client_after, getting_by, new_client, sent_to, with_client, with_got}
 use Rattle.packet_stream.specs.Queue.{has_bytes}
-use Rattle.session_world.specs.Worlds.{Doing, Place, ToCall, ToLeave, ToOpen, ToSend, ToSet, does, is_over_at, is_there_at, waits_at}
+use Rattle.session_world.specs.Worlds.{Doing, Place, ToCall, ToExecute, ToFail, ToLeave, ToOpen, ToSend, ToSet, does, is_over_at, is_there_at, waits_at}
 use Rattle.session_world.specs.declared.calls.Calls.TheVariants.{All, One}
 use Rattle.session_world.specs.declared.calls.Peer.TheVariants.{Closed, Failed}
 use Rattle.session_world.specs.declared.running.Task.{Task}
@@ -164,8 +166,13 @@ running_keeps r number GoesDown all = runs_keep most_turns r number all
 running_keeps r number GoesUp all = runs_keep most_turns r number all
 running_keeps r number CutsOff all = runs_keep most_turns r number all
 
+administers_keeps : (r : Replay) (read : Result Statement ℕ) → AreFew r.clients → AreFew (administers r read).replay.clients
+administers_keeps r (Err place) all = all
+administers_keeps r (Ok statement) all = doing_keeps r (ToExecute statement) all
+
 event_keeps : (r : Replay) (event : Event) → AreFew r.clients → AreFew (happens r event).replay.clients
 event_keeps r (event.Clock reading) all = doing_keeps r (ToSet reading) all
+event_keeps r (event.Admin text) all = administers_keeps r (statement_in text) all
 event_keeps r (event.Open number) all = doing_keeps r (ToOpen number) all
 event_keeps r (event.Client number flags user secrets) all = begins_keeps r all number (claim_of flags user secrets)
 event_keeps r (event.FromPeer number bytes) all = sends_keeps r all number bytes (r.clients number)
@@ -177,6 +184,7 @@ event_keeps r (event.Say number text) all = writes_keeps r all number (0x03 ∷ 
 event_keeps r (event.Command number payload) all = writes_keeps r all number payload (r.clients number) (all number)
 event_keeps r (event.Close number) all = doing_keeps r (ToLeave number Closed) all
 event_keeps r (event.Cut number) all = doing_keeps r (ToLeave number Failed) all
+event_keeps r event.FailKeeper all = doing_keeps r ToFail all
 
 events_keep : (r : Replay) (events : List Event) → AreFew r.clients → AreFew (after_events r events).clients
 events_keep r [] all = all

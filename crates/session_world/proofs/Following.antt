@@ -19,6 +19,7 @@ use Rattle.session_world.specs.declared.calls.Calls.TheVariants.{Nothing}
 use Rattle.session_world.specs.declared.calls.Peer.{Peer}
 use Rattle.session_world.specs.declared.calls.Peer.TheVariants.{Open, Closed, Failed}
 use Rattle.session_world.specs.Going.{Gone, going}
+use Rattle.world_table.specs.Statements.{administered}
 use Rattle.world_table.specs.Printing.{Adds, Ends, Idle, Line, Sends, Stale}
 use Rattle.session_world.specs.Lines.{ends_in, entries_in, sends_in}
 use Rattle.session_world.specs.Transcripts.{DoingsAreTranscripts, IsTranscript, as_told, bytes_of, lines_of, peer_at, session_bytes, session_lines}
@@ -174,7 +175,7 @@ with_lines number found bytes lines more f =
 
 -- ## An doing
 
-module _ (w : World) (number : ℕ) (bytes : List ℕ) (lines : List Line) (follows : FollowsLines number (w.places number) bytes lines) where
+module _ (w : World) (number : ℕ) (is_session : number ≢ 0) (bytes : List ℕ) (lines : List Line) (follows : FollowsLines number (w.places number) bytes lines) where
   abbrev AfterMove : Move → Type 0
   AfterMove m = FollowsLines number ((moved w m).world.places number) (bytes ++ bytes_of number m) (lines ++ lines_of number m)
 
@@ -188,6 +189,16 @@ module _ (w : World) (number : ℕ) (bytes : List ℕ) (lines : List Line) (foll
   idle_follows true = with_lines number (w.places number) (bytes ++ []) lines (Idle ∷ [])
       (same_place number (w.places number) _ _ _ _ _ _ _ _ (sym (append-nil bytes)) (sym (append-nil (sends_in lines)))
       (sym (append-nil (entries_in lines))) (sym (append-nil (ends_in lines))) follows)
+
+  -- what stands under the number 0 is of no session
+  apart : (others : List Line) → FollowsLines number (w.places number) (bytes ++ []) (lines ++ (if number == 0 then others else []))
+  apart others = by (eqb_tells number 0)
+    where
+      by : (((number == 0) ≡ true) × (number ≡ 0)) ⊎ (((number == 0) ≡ false) × (number ≢ 0)) →
+          FollowsLines number (w.places number) (bytes ++ []) (lines ++ (if number == 0 then others else []))
+      by (inl e) = absurd (is_session e.1)
+      by (inr e) = subst (λ (test : Bool). FollowsLines number (w.places number) (bytes ++ []) (lines ++ (if test then others else []))) (sym e.0)
+          (nothing (w.places number) follows)
 
   abbrev AfterGoing : (peer : Peer) (more : List ℕ) → Gone → Bool → Type 0
   AfterGoing peer more g test = FollowsLines number (if test then Some (place_of peer g) else w.places number)
@@ -231,7 +242,8 @@ module _ (w : World) (number : ℕ) (bytes : List ℕ) (lines : List Line) (foll
 
   after_doing : (doing : Doing) → AfterMove (move w doing)
   after_doing doing = of_doing w AfterMove (record {
-    sets = λ reading. nothing (w.places number) follows;
+    sets = λ common same. nothing (w.places number) follows;
+    executes = λ statement. apart (administered w.common statement).lines;
     idles = λ other. idle_follows (number == other);
     opens = λ other e. opens_at other (going Open Nothing w.common 0 (session other) no_bytes) (goes_as_owed Open Nothing w.common 0 (session other) no_bytes) e;
     goes = λ other place peer calls more e ready.
@@ -241,16 +253,16 @@ module _ (w : World) (number : ℕ) (bytes : List ℕ) (lines : List Line) (foll
 
 -- ## All doings
 
-follow_all : (w : World) (doings : List Doing) (number : ℕ) (bytes : List ℕ) (lines : List Line) → FollowsLines number (w.places number) bytes lines →
+follow_all : (w : World) (doings : List Doing) (number : ℕ) → number ≢ 0 → (bytes : List ℕ) (lines : List Line) → FollowsLines number (w.places number) bytes lines →
     FollowsLines number ((after_all w doings).places number) (bytes ++ session_bytes number w doings) (lines ++ session_lines number w doings)
-follow_all w [] number bytes lines f = nothing w number bytes lines f (w.places number) f
-follow_all w (first ∷ doings) number bytes lines f =
+follow_all w [] number is_session bytes lines f = nothing w number is_session bytes lines f (w.places number) f
+follow_all w (first ∷ doings) number is_session bytes lines f =
     subst (λ (bs : List ℕ). FollowsLines number ((after_all w (first ∷ doings)).places number) bs (lines ++ session_lines number w (first ∷ doings)))
     (append_assoc bytes (bytes_of number (move w first)) (session_bytes number (does w first).world doings))
     (subst (λ (ls : List Line). FollowsLines number ((after_all w (first ∷ doings)).places number) ((bytes ++ bytes_of number (move w first)) ++ session_bytes number (does w first).world doings) ls)
     (append_assoc lines (lines_of number (move w first)) (session_lines number (does w first).world doings))
-    (follow_all (does w first).world doings number (bytes ++ bytes_of number (move w first)) (lines ++ lines_of number (move w first))
-    (after_doing w number bytes lines f first)))
+    (follow_all (does w first).world doings number is_session (bytes ++ bytes_of number (move w first)) (lines ++ lines_of number (move w first))
+    (after_doing w number is_session bytes lines f first)))
 
 -- it is a transcript, and each nonce in it has 20 bytes
 pub record IsNonced (number : ℕ) (peer : Peer) (bytes : List ℕ) (lines : List Line) : Type 0 where
@@ -277,13 +289,13 @@ transcript_of number (Some place) bytes lines f = record {
   nonces = f.nonces;
 }
 
-pub nonced_transcripts : (openings : List Opening) (settings : Settings) (doings : List Doing) (number : ℕ) →
+pub nonced_transcripts : (openings : List Opening) (settings : Settings) (doings : List Doing) (number : ℕ) → number ≢ 0 →
     let w = new_world openings settings in
     IsNonced number (peer_at ((after_all w doings).places number)) (session_bytes number w doings) (session_lines number w doings)
-nonced_transcripts openings settings doings number =
+nonced_transcripts openings settings doings number is_session =
     let w : World = new_world openings settings in
     transcript_of number ((after_all w doings).places number) (session_bytes number w doings) (session_lines number w doings)
-    (follow_all w doings number [] [] (refl, refl, refl, refl))
+    (follow_all w doings number is_session [] [] (refl, refl, refl, refl))
 
 pub sessions_are_transcripts : DoingsAreTranscripts
-sessions_are_transcripts openings settings doings number = (nonced_transcripts openings settings doings number).transcript
+sessions_are_transcripts openings settings doings number is_session = (nonced_transcripts openings settings doings number is_session).transcript

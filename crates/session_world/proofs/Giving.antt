@@ -3,6 +3,8 @@ use Rattle.std.proofs.Common.{◌≡◌, refl, ap, sym, ◌∙◌, subst, ℕ, L
 use Rattle.factor_chain.specs.CheckedOf.{CheckedOf}
 use Rattle.factor_chain.specs.declared.credentials.Look.{Look}
 use Rattle.factor_chain.specs.declared.evidence_list.Evidence.{Evidence}
+use Rattle.account_history.specs.Preparing.{PreparedOf}
+use Rattle.stmt_rules.specs.declared.statement.Statement.{Statement}
 use Rattle.session_talk.proofs.Asking.{what_fits_is_asked}
 use Rattle.session_talk.specs.Talk.{Own, Question, SessionTalk}
 use Rattle.session_talk.specs.Turns.{IsAsked, IsFitting, asked, first_id, heard, rest, said}
@@ -27,6 +29,8 @@ use Rattle.session_world.proofs.Turning.{going_said}
 fitting : (q : Question) (given : Input) → ¬ IsGivenBack given → IsFitting q given
 fitting (Own (ask.Check look evidences)) (input.Checked checked) free = absurd (free tt)
 fitting (Own (ask.Settle checked flags)) (input.Stale evidences) free = absurd (free tt)
+fitting (Own (ask.Prepare look statement salt actor)) (input.Prepared prepared) free = absurd (free tt)
+fitting (Own (ask.Commit prepared actor)) (input.StaleStatement statement) free = absurd (free tt)
 fitting _ _ free = tt
 
 -- an input that gives nothing back
@@ -42,6 +46,17 @@ pub stale_asked : (next : ℕ) (t : SessionTalk) (checked : CheckedOf) (flags : 
     evidences ≡ checked.evidences → IsAsked t (input.Stale evidences)
 stale_asked next t checked flags evidences asks is =
     what_fits_is_asked next t (input.Stale evidences) (subst (λ (a : Ask). IsFitting (Own a) (input.Stale evidences)) (sym asks) is)
+
+pub prepared_asked : (next : ℕ) (t : SessionTalk) (look : Look) (statement : Statement) (salt : List ℕ) (actor : ℕ) (prepared : PreparedOf) →
+    asked next t ≡ ask.Prepare look statement salt actor → prepared ≡ record { look = look; statement = statement; salt = salt; actor = actor } →
+    IsAsked t (input.Prepared prepared)
+prepared_asked next t look statement salt actor prepared asks is =
+    what_fits_is_asked next t (input.Prepared prepared) (subst (λ (a : Ask). IsFitting (Own a) (input.Prepared prepared)) (sym asks) is)
+
+pub stale_statement_asked : (next : ℕ) (t : SessionTalk) (prepared : PreparedOf) (actor : ℕ) (statement : Statement) → asked next t ≡ ask.Commit prepared actor →
+    statement ≡ prepared.statement → IsAsked t (input.StaleStatement statement)
+stale_statement_asked next t prepared actor statement asks is =
+    what_fits_is_asked next t (input.StaleStatement statement) (subst (λ (a : Ask). IsFitting (Own a) (input.StaleStatement statement)) (sym asks) is)
 
 -- ## What a turn leads to
 

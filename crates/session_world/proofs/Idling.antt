@@ -15,12 +15,16 @@ use Rattle.session_world.specs.declared.calls.Calls.{Calls}
 use Rattle.session_world.specs.declared.calls.Calls.TheVariants.{Nothing, One, All}
 use Rattle.session_world.specs.declared.calls.Peer.{Peer}
 use Rattle.session_world.specs.declared.calls.Peer.TheVariants.{Open, Closed, Failed}
+use Rattle.session_talk.specs.Statements.{no_salt}
+use Rattle.stmt_rules.specs.declared.statement.Statement.{Statement}
+use Rattle.account_history.specs.Preparing.{is_preparable, who_of}
+use Rattle.world_table.specs.Statements.{administered, administrator, executes, executes_seen}
 use Rattle.world_table.specs.Drawing.{drawn_nonce}
 use Rattle.session_world.specs.Going.{Gone, closing, going, if_allowed, unread_by}
 use Rattle.world_table.specs.Table.{Common, is_stale, with_draw}
 use Rattle.world_table.specs.Printing.{Adds, Ends, Idle, Line, Sends, Stale}
 use Rattle.session_world.specs.Transcripts.{IdleDoingsChangeNothing}
-use Rattle.session_world.specs.Worlds.{Doing, GoesOn, IsIdle, Move, Sets, World, move, moved}
+use Rattle.session_world.specs.Worlds.{Doing, GoesOn, IsIdle, Move, Executes, Sets, World, move, moved}
 use Rattle.session_world.proofs.Moving.{of_doing}
 
 -- the first line isn't that nothing was to be done
@@ -77,17 +81,33 @@ going_busy peer calls c next (Asks (Own (ask.Check look evidences)) k) stream =
 going_busy peer calls c next (Asks (Own (ask.Settle checked flags)) k) stream =
     if_allowed_is IsBusy calls _ _ (if_is IsBusy (is_stale c checked.look) _ _ tt tt) tt
 going_busy peer calls c next (Asks (Own (ask.SettleLocked user evidences flags)) k) stream = if_allowed_is IsBusy calls _ _ tt tt
+going_busy peer calls c next (Asks (Own (ask.Prepare look statement salt actor)) k) stream =
+    going_busy peer calls c next (k (input.Prepared (record { look = look; statement = statement; salt = salt; actor = actor }))) stream
+going_busy peer calls c next (Asks (Own (ask.Commit prepared actor)) k) stream =
+    if_allowed_is IsBusy calls _ _ (if_is IsBusy (is_stale c prepared.look) _ _ tt tt) tt
+going_busy peer calls c next (Asks (Own (ask.CommitLocked statement salt actor)) k) stream = if_allowed_is IsBusy calls _ _ tt tt
+going_busy peer calls c next (Asks (Own (ask.CommitPlain statement actor)) k) stream = if_allowed_is IsBusy calls _ _ tt tt
 going_busy peer calls c next (Asks _ k) stream = tt
 going_busy peer calls c next (Over how) stream = tt
 
 abbrev pub IsBusyMove : Move → Type 0
-IsBusyMove (Sets reading) = Unit {0}
+IsBusyMove (Sets common) = Unit {0}
+IsBusyMove (Executes did) = AreBusy did.lines
 IsBusyMove (GoesOn number peer bytes g) = IsBusy g
 IsBusyMove (IsIdle number) = Unit {0}
 
+-- a statement adds an entry
+administered_busy : (c : Common) (statement : Statement) → AreBusy (administered c statement).lines
+administered_busy c statement = either (is_preparable statement)
+  where
+    either : (test : Bool) → AreBusy (if test then executes_seen c statement (who_of administrator statement) else executes c statement no_salt).lines
+    either true = tt
+    either false = tt
+
 pub move_busy : (w : World) (doing : Doing) → IsBusyMove (move w doing)
 move_busy w doing = of_doing w IsBusyMove (record {
-  sets = λ reading. tt;
+  sets = λ common same. tt;
+  executes = λ statement. administered_busy w.common statement;
   idles = λ number. tt;
   opens = λ number e. going_busy _ _ _ _ _ _;
   goes = λ number place peer calls bytes e ready. going_busy _ _ _ _ _ _;
@@ -97,7 +117,8 @@ not_idle : (lines : List Line) → AreBusy lines → lines ≡ Idle ∷ [] → �
 not_idle lines busy e = subst AreBusy e busy
 
 idle_move : (w : World) (m : Move) → IsBusyMove m → (moved w m).lines ≡ Idle ∷ [] → (moved w m).world ≡ w
-idle_move w (Sets reading) busy e = absurd (not_idle [] tt e)
+idle_move w (Sets common) busy e = absurd (not_idle [] tt e)
+idle_move w (Executes did) busy e = absurd (not_idle did.lines busy e)
 idle_move w (GoesOn session peer bytes g) busy e = absurd (not_idle g.lines busy e)
 idle_move w (IsIdle session) busy e = refl
 

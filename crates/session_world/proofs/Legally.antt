@@ -4,11 +4,10 @@ use Rattle.packet_frame.specs.Front.{Front, Whole, Part, Fault}
 use Rattle.packet_frame.specs.Packets.{id_after}
 use Rattle.packet_frame.specs.declared.packets.FrameFault.{FrameFault}
 use Rattle.packet_frame.specs.declared.packets.FrameFault.TheVariants.{TooLarge, OutOfOrder, Memory as NoMemory}
-use Rattle.account_history.proofs.OneMore.{history-noted}
 use Rattle.account_history.specs.Histories.{history, noted}
-use Rattle.account_history.specs.Legal.{IsAnswered, IsLegal}
+use Rattle.account_history.specs.Legal.{IsLegal}
 use Rattle.account_history.specs.declared.entries.Entry.{Entry}
-use Rattle.account_history.specs.declared.entries.Entry.TheVariants.{Observed}
+use Rattle.account_history.specs.declared.entries.Entry.TheVariants.{Executed, Observed}
 use Rattle.account_history.specs.declared.entries.Log.{Log}
 use Rattle.interaction.specs.Talk.{Got, Says, Hears, Asks, Over}
 use Rattle.session_talk.specs.Talk.{Begins, Own, SessionTalk}
@@ -21,52 +20,20 @@ use Rattle.packet_stream.specs.Streams.{Stream, behind_of, by_front, front_of}
 use Rattle.session_world.specs.declared.calls.Calls.{Calls}
 use Rattle.session_world.specs.declared.calls.Peer.{Peer}
 use Rattle.session_world.specs.declared.calls.Peer.TheVariants.{Open, Closed, Failed}
+use Rattle.session_talk.specs.Statements.{no_salt}
+use Rattle.stmt_rules.specs.declared.statement.Statement.{Statement}
 use Rattle.world_table.specs.Drawing.{drawn_nonce}
+use Rattle.world_table.specs.Statements.{executed, with_execution}
 use Rattle.session_world.specs.Going.{Gone, closing, going, spent, unread_by}
-use Rattle.world_table.specs.Table.{Common, attempted, is_stale, replied, seen, with_draw, with_entry}
+use Rattle.world_table.specs.Table.{Common, attempted, is_stale, next_number, replied, seen, with_draw, with_entry}
 use Rattle.world_table.specs.Printing.{Adds, Ends, Idle, Line, Sends, Stale}
 use Rattle.session_world.specs.Lines.{Numbered, entries_in, numbered_in}
 use Rattle.session_world.specs.Transcripts.{DoingsAreLegal, all_lines, lines_in, numbered}
 use Rattle.session_world.specs.Worlds.{Doing, Move, World, after_all, does, move, moved, new_world}
+use Rattle.session_world.proofs.Administering.{administered_writes, is_answered}
+use Rattle.session_world.proofs.Extending.{Extends, one, unchanged, with_same}
 use Rattle.session_world.proofs.Idling.{if_allowed_is, if_is}
 use Rattle.session_world.proofs.Moving.{of_doing}
-
--- a log with the entries of these lines, by their numbers, each answered by what is before it
-pub record Extends (before : Log) (lines : List Line) (after : Log) : Type 0 where
-  pub starts : after.start ≡ before.start
-  pub entries : after.entries ≡ before.entries ++ entries_in lines
-  pub numbers : numbered_in lines ≡ numbered (length before.entries + 1) (entries_in lines)
-  pub legal : IsLegal (history before) → IsLegal (history after)
-
--- lines without an entry
-unchanged : (log : Log) (lines : List Line) → entries_in lines ≡ [] → numbered_in lines ≡ [] → Extends log lines log
-unchanged log lines e n = record {
-  starts = refl;
-  entries = sym (append-nil log.entries) ∙ ap (λ (more : List Entry). log.entries ++ more) (sym e);
-  numbers = n ∙ ap (λ (more : List Entry). numbered (length log.entries + 1) more) (sym e);
-  legal = λ l. l;
-}
-
--- other lines with the same entries
-with_same : (before : Log) (lines others : List Line) (after : Log) → entries_in others ≡ entries_in lines → numbered_in others ≡ numbered_in lines →
-    Extends before lines after → Extends before others after
-with_same before lines others after e n x = record {
-  starts = x.starts;
-  entries = x.entries ∙ ap (λ (more : List Entry). before.entries ++ more) (sym e);
-  numbers = n ∙ (x.numbers ∙ ap (λ (more : List Entry). numbered (length before.entries + 1) more) (sym e));
-  legal = x.legal;
-}
-
--- an entry first
-one : (log : Log) (entry : Entry) (lines : List Line) (after : Log) → IsAnswered (history log) entry → Extends (noted log entry) lines after →
-    Extends log (Adds (length log.entries + 1) entry ∷ lines) after
-one log entry lines after answered x = record {
-  starts = x.starts;
-  entries = x.entries ∙ append_assoc log.entries (entry ∷ []) (entries_in lines);
-  numbers = ap (λ (more : List Numbered). record { number = length log.entries + 1; entry = entry } ∷ more)
-      (x.numbers ∙ ap (λ (n : ℕ). numbered (n + 1) (entries_in lines)) (length-append log.entries (entry ∷ [])));
-  legal = λ l. x.legal (subst IsLegal (sym (history-noted log entry)) (l, answered));
-}
 
 abbrev Writes : Common → Gone → Type 0
 Writes c g = Extends c.log g.lines g.common.log
@@ -81,6 +48,13 @@ unread_writes : (peer : Peer) (c : Common) (next : ℕ) (t : SessionTalk) (strea
 unread_writes Open c next t stream = unchanged c.log [] refl refl
 unread_writes Closed c next t stream = unchanged c.log _ refl refl
 unread_writes Failed c next t stream = unchanged c.log _ refl refl
+
+-- a statement is executed first
+executing_writes : (c : Common) (statement : Statement) (salt : List ℕ) (actor : ℕ) (lines : List Line) (after : Log) →
+    Extends (noted c.log (Executed (executed c statement salt actor))) lines after →
+    Extends c.log (Adds (next_number c) (Executed (executed c statement salt actor)) ∷ lines) after
+executing_writes c statement salt actor lines after x =
+    one c.log (Executed (executed c statement salt actor)) lines after (is_answered c statement salt actor) x
 
 going_writes : (peer : Peer) (calls : Calls) (c : Common) (next : ℕ) (t : SessionTalk) (stream : Stream) → Writes c (going peer calls c next t stream)
 unfolding going
@@ -118,6 +92,27 @@ going_writes peer calls c next (Asks (Own (ask.SettleLocked user evidences flags
     if_allowed_is (Writes c) calls _ _
     (one c.log (attempted c user evidences flags) _ _ refl
     (going_writes peer (spent calls) (with_entry c (attempted c user evidences flags)) next (k (input.Settled (replied c user evidences flags))) stream))
+    (unchanged c.log [] refl refl)
+going_writes peer calls c next (Asks (Own (ask.Prepare look statement salt actor)) k) stream =
+    going_writes peer calls c next (k (input.Prepared (record { look = look; statement = statement; salt = salt; actor = actor }))) stream
+going_writes peer calls c next (Asks (Own (ask.Commit prepared actor)) k) stream =
+    if_allowed_is (Writes c) calls _ _
+    (if_is (Writes c) (is_stale c prepared.look) _ _
+    (with_same c.log _ _ _ refl refl (going_writes peer (spent calls) c next (k (input.StaleStatement prepared.statement)) stream))
+    (executing_writes c prepared.statement prepared.salt actor _ _
+    (going_writes peer (spent calls) (with_execution c (executed c prepared.statement prepared.salt actor)) next
+    (k (input.Ran (executed c prepared.statement prepared.salt actor).reply)) stream)))
+    (unchanged c.log [] refl refl)
+going_writes peer calls c next (Asks (Own (ask.CommitLocked statement salt actor)) k) stream =
+    if_allowed_is (Writes c) calls _ _
+    (executing_writes c statement salt actor _ _
+    (going_writes peer (spent calls) (with_execution c (executed c statement salt actor)) next (k (input.Ran (executed c statement salt actor).reply)) stream))
+    (unchanged c.log [] refl refl)
+going_writes peer calls c next (Asks (Own (ask.CommitPlain statement actor)) k) stream =
+    if_allowed_is (Writes c) calls _ _
+    (executing_writes c statement no_salt actor _ _
+    (going_writes peer (spent calls) (with_execution c (executed c statement no_salt actor)) next
+    (k (input.Ran (executed c statement no_salt actor).reply)) stream))
     (unchanged c.log [] refl refl)
 going_writes peer calls c next (Asks _ k) stream = unchanged c.log [] refl refl
 going_writes peer calls c next (Over how) stream = unchanged c.log _ refl refl
@@ -180,7 +175,8 @@ MoveWrites w m = Extends w.common.log (lines_in m) (moved w m).world.common.log
 doing_writes : (w : World) (doing : Doing) → Extends w.common.log (lines_in (move w doing)) (does w doing).world.common.log
 doing_writes w doing =
     of_doing w (MoveWrites w) (record {
-      sets = λ reading. unchanged w.common.log [] refl refl;
+      sets = λ common same. subst (λ (log : Log). Extends w.common.log [] log) (sym same) (unchanged w.common.log [] refl refl);
+      executes = λ statement. administered_writes w.common statement;
       idles = λ number. unchanged w.common.log (Idle ∷ []) refl refl;
       opens = λ number e. going_writes _ _ w.common _ _ _;
       goes = λ number place peer calls bytes e ready. going_writes peer calls w.common place.next place.at _;

@@ -1,6 +1,7 @@
 mod Turning
 mod Giving
 mod Turned
+mod Committing
 mod Kept
 mod Taking
 mod Happening
@@ -8,6 +9,8 @@ mod Answering
 mod Bounded
 mod Moving
 mod Idling
+mod Extending
+mod Administering
 mod Legally
 mod Entering
 mod Transcribed

@@ -74,8 +74,8 @@ module _ (over : Bool) (client : Client) (sent : List Sent) (bytes : List ℕ) (
     of (got, written, leads, beginning) = (got, written, beginning, record { now = Over how; leads = leads; result_is = refl })
 
 pub opened_by_its_reply : EventsAreDone → SessionsAreTranscripts → OpenedByItsReply
-opened_by_its_reply done transcribed openings settings events number client is opened =
-    let t = transcribed openings settings events number in
+opened_by_its_reply done transcribed openings settings events number client is_session is opened =
+    let t = transcribed openings settings events number is_session in
     let p = peer_after openings settings events number done client is in
     let (got, written, beginning, talk) = talked _ client (sends_in (lines_over openings settings events number)) _ p end.Opened (λ fault e. absurd (cc)) (λ e. absurd (cc)) opened in
     opened-by-reply.over_bytes number _ _ _ _ _ p.claim got written t.is beginning talk
@@ -86,8 +86,8 @@ among_sent got sent payload (rest, split) among =
     subst (λ (all : List (List ℕ)). Contains all payload) (sym split) (Contains-append_left got rest payload among)
 
 pub refused_by_its_error : EventsAreDone → SessionsAreTranscripts → RefusedByItsError
-refused_by_its_error done transcribed openings settings events number client refusal is refused =
-    let t = transcribed openings settings events number in
+refused_by_its_error done transcribed openings settings events number client refusal is_session is refused =
+    let t = transcribed openings settings events number is_session in
     let p = peer_after openings settings events number done client is in
     let (got, written, beginning, talk) = talked _ client (sends_in (lines_over openings settings events number)) _ p (end.Refused refusal) (λ fault e. absurd (cc)) (λ e. absurd (cc)) refused in
     let (error, among, number_is) = refused-by-error.over_bytes number _ _ _ _ _ p.claim got written refusal t.is beginning talk in

@@ -12,7 +12,10 @@ use Rattle.session_world.specs.declared.calls.Peer.{Peer}
 use Rattle.session_world.specs.declared.calls.Peer.TheVariants.{Open, Closed, Failed}
 use Rattle.session_world.specs.Going.{Gone, going}
 use Rattle.session_world.specs.Transcripts.{as_told}
-use Rattle.session_world.specs.Worlds.{Doing, GoesOn, IsIdle, Move, Place, Sets, ToCall, ToIdle, ToLeave, ToOpen, ToSend, ToSet, World, calling, is_there, leaving, move, no_bytes, opening, sending, waits}
+use Rattle.stmt_rules.specs.declared.statement.Statement.{Statement}
+use Rattle.world_table.specs.Statements.{administered}
+use Rattle.world_table.specs.Table.{Common, with_failure}
+use Rattle.session_world.specs.Worlds.{Doing, GoesOn, IsIdle, Move, Executes, Place, Sets, ToCall, ToExecute, ToFail, ToIdle, ToLeave, ToOpen, ToSend, ToSet, World, calling, is_there, leaving, move, no_bytes, opening, sending, waits}
 
 -- ## What holds of each
 
@@ -43,7 +46,8 @@ waits_there Open _ e stream = refl
 
 -- what holds of an doing's move, where it holds of each kind
 pub record Each (w : World) (P : Move → Type 0) : Type 0 where
-  pub sets : (reading : ℕ) → P (Sets reading)
+  pub sets : (common : Common) → common.log ≡ w.common.log → P (Sets common)
+  pub executes : (statement : Statement) → P (Executes (administered w.common statement))
   pub idles : (number : ℕ) → P (IsIdle number)
   pub opens : (number : ℕ) → w.places number ≡ None → P (GoesOn number Open [] (going Open Nothing w.common 0 (session number) no_bytes))
   pub goes : (number : ℕ) (place : Place) (peer : Peer) (calls : Calls) (bytes : List ℕ) → w.places number ≡ Some place → Waits place →
@@ -83,7 +87,9 @@ module _ (w : World) (P : Move → Type 0) (each : Each w P) where
       (λ may. without_more number place peer Nothing e (waits_there place.peer place.at may))
 
   pub of_doing : (doing : Doing) → P (move w doing)
-  of_doing (ToSet reading) = each.sets reading
+  of_doing (ToSet reading) = each.sets (record w.common { clock = reading }) refl
+  of_doing ToFail = each.sets (with_failure w.common) refl
+  of_doing (ToExecute statement) = each.executes statement
   of_doing (ToOpen number) = of_opening number (w.places number) refl
   of_doing (ToSend number bytes) = of_sending number bytes (w.places number) refl
   of_doing (ToCall number calls) = of_calling number calls (w.places number) refl

@@ -18,7 +18,9 @@ use Rattle.session_world.specs.Lines.{sends_in}
 use Rattle.session_world.specs.Replays.{session_of, with_sent}
 use Rattle.client_wire.specs.UnderWay.{Client, sent_to}
 use Rattle.session_world.specs.Transcripts.{as_told, bytes_of, lines_of}
-use Rattle.session_world.specs.Worlds.{Doing, GoesOn, IsIdle, Move, Place, ToCall, ToIdle, ToLeave, ToOpen, ToSend, ToSet, World, calling, does, is_over, is_over_at, is_there, leaving, move, moved, no_bytes, opening, place_of, sending, waits}
+use Rattle.session_world.specs.Worlds.{Doing, Executes, GoesOn, IsIdle, Move, Place, Sets, ToCall, ToExecute, ToFail, ToIdle, ToLeave, ToOpen, ToSend, ToSet, World, calling, does, is_over, is_over_at, is_there, leaving, move, moved, no_bytes, opening, place_of, sending, waits}
+use Rattle.world_table.specs.Statements.{Administered, administered}
+use Rattle.session_world.proofs.Administering.{sends_none}
 use Rattle.session_world.proofs.Moving.{Waits, of_doing}
 use Rattle.session_world.proofs.Peering.{IsPeer, session_goes}
 
@@ -85,6 +87,13 @@ module _ (number : ℕ) (w : World) (clients : ℕ → Option Client) (sent : Li
   idle_holds true brings = nothing_here brings
   idle_holds false brings = there brings
 
+  -- a statement of the administrator sends nothing
+  executes_holds : (did : Administered) → sends_in did.lines ≡ [] → (test : Bool) → Brings [] →
+      Holds (w.places number) (sent_if test (packets_text (sends_in did.lines))) (sent ++ sends_in (if test then did.lines else [])) (bytes ++ []) []
+  executes_holds did none true brings =
+      subst (λ (more : List Sent). Holds (w.places number) (sent_if true (packets_text more)) (sent ++ more) (bytes ++ []) []) (sym none) (nothing_here brings)
+  executes_holds did none false brings = there brings
+
   -- it is done to this session or to another
   abbrev GoesIf : (peer : Peer) (more : List ℕ) → Gone → Bool → Type 0
   GoesIf peer more g test =
@@ -110,7 +119,8 @@ module _ (number : ℕ) (w : World) (clients : ℕ → Option Client) (sent : Li
 
   after_move : (doing : Doing) → After (move w doing)
   after_move doing = of_doing w After (record {
-    sets = λ reading. sets_holds (number == 0);
+    sets = λ common same. sets_holds (number == 0);
+    executes = λ statement. executes_holds (administered w.common statement) (sends_none w.common statement) (number == 0);
     idles = λ other. idle_holds (number == other);
     opens = λ other e. by_number other Open [] (going Open Nothing w.common 0 (session other) no_bytes) (not_over other None e (λ is. absurd (cc)));
     goes = λ other place peer calls more e ready.
@@ -140,6 +150,8 @@ module _ (number : ℕ) (w : World) (clients : ℕ → Option Client) (sent : Li
 
   same_session : (doing : Doing) → (does w doing).session ≡ session_of doing
   same_session (ToSet reading) = refl
+  same_session ToFail = refl
+  same_session (ToExecute statement) = refl
   same_session (ToOpen other) = opens_session other (w.places other)
   same_session (ToSend other more) = sent_session other more (w.places other)
   same_session (ToCall other calls) = called_session other calls (w.places other)

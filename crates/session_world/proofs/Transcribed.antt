@@ -6,7 +6,8 @@ use Rattle.packet_frame.specs.declared.packets.FrameFault.{FrameFault}
 use Rattle.packet_frame.specs.declared.packets.FrameFault.TheVariants.{TooLarge, OutOfOrder, Memory as NoMemory}
 use Rattle.packet_frame.specs.declared.packets.Packet.{Packet}
 use Rattle.account_history.specs.declared.entries.Entry.{Entry}
-use Rattle.account_history.specs.declared.entries.Entry.TheVariants.{Observed}
+use Rattle.account_history.specs.declared.entries.Execution.{Execution}
+use Rattle.account_history.specs.declared.entries.Entry.TheVariants.{Executed, Observed}
 use Rattle.session_talk.specs.declared.ends.SessionEnd.{SessionEnd}
 use Rattle.session_talk.specs.declared.actions.Ask.TheVariants as ask
 use Rattle.session_talk.specs.declared.inputs.Input.{Input}
@@ -25,7 +26,9 @@ use Rattle.both_ends.specs.Meeting.{AreNonces, HasWholeNonce}
 use Rattle.session_world.specs.declared.calls.Calls.{Calls}
 use Rattle.session_world.specs.declared.calls.Peer.{Peer}
 use Rattle.session_world.specs.declared.calls.Peer.TheVariants.{Open, Closed, Failed}
+use Rattle.session_talk.specs.Statements.{no_salt}
 use Rattle.world_table.specs.Drawing.{drawn_nonce}
+use Rattle.world_table.specs.Statements.{executed, with_execution}
 use Rattle.session_world.specs.Going.{Gone, closing, going, spent, stops, unread_by}
 use Rattle.world_table.specs.Printing as line
 use Rattle.world_table.specs.Printing.{Line}
@@ -250,6 +253,46 @@ goes_as_owed peer calls c next (Asks (Own (ask.SettleLocked user evidences flags
     (answer_goes peer next (Own (ask.SettleLocked user evidences flags)) k stream given refl (entry ∷ []) (line.Adds (next_number c) entry ∷ g.lines) g
     tt tt (c.clock, refl) refl refl refl (goes_as_owed peer (spent calls) (with_entry c entry) next (k given) stream))
     (question_waits peer c next (Own (ask.SettleLocked user evidences flags)) k stream)
+goes_as_owed peer calls c next (Asks (Own (ask.Prepare look statement salt actor)) k) stream =
+    let given : Input = input.Prepared (record { look = look; statement = statement; salt = salt; actor = actor }) in
+    let g : Gone = going peer calls c next (k given) stream in
+    answer_goes peer next (Own (ask.Prepare look statement salt actor)) k stream given refl [] g.lines g tt refl refl refl refl refl
+    (goes_as_owed peer calls c next (k given) stream)
+goes_as_owed peer calls c next (Asks (Own (ask.Commit prepared actor)) k) stream =
+    let late : Input = input.StaleStatement prepared.statement in
+    let g : Gone = going peer (spent calls) c next (k late) stream in
+    let execution : Execution = executed c prepared.statement prepared.salt actor in
+    let given : Input = input.Ran execution.reply in
+    let h : Gone = going peer (spent calls) (with_execution c execution) next (k given) stream in
+    if_allowed_is (GoesAsOwed peer next (Asks (Own (ask.Commit prepared actor)) k) stream) calls _ _
+    (if_is (GoesAsOwed peer next (Asks (Own (ask.Commit prepared actor)) k) stream) (is_stale c prepared.look) _ _
+    (answer_goes peer next (Own (ask.Commit prepared actor)) k stream late refl [] (line.Stale ∷ g.lines) g tt refl refl refl refl refl
+    (goes_as_owed peer (spent calls) c next (k late) stream))
+    (answer_goes peer next (Own (ask.Commit prepared actor)) k stream given refl (Executed execution ∷ [])
+    (line.Adds (next_number c) (Executed execution) ∷ h.lines) h tt
+    tt (execution.reading, execution.count, execution.called, execution.failed, refl) refl refl refl
+    (goes_as_owed peer (spent calls) (with_execution c execution) next (k given) stream)))
+    (question_waits peer c next (Own (ask.Commit prepared actor)) k stream)
+goes_as_owed peer calls c next (Asks (Own (ask.CommitLocked statement salt actor)) k) stream =
+    let execution : Execution = executed c statement salt actor in
+    let given : Input = input.Ran execution.reply in
+    let g : Gone = going peer (spent calls) (with_execution c execution) next (k given) stream in
+    if_allowed_is (GoesAsOwed peer next (Asks (Own (ask.CommitLocked statement salt actor)) k) stream) calls _ _
+    (answer_goes peer next (Own (ask.CommitLocked statement salt actor)) k stream given refl (Executed execution ∷ [])
+    (line.Adds (next_number c) (Executed execution) ∷ g.lines) g
+    tt tt (execution.reading, execution.count, execution.called, execution.failed, refl) refl refl refl
+    (goes_as_owed peer (spent calls) (with_execution c execution) next (k given) stream))
+    (question_waits peer c next (Own (ask.CommitLocked statement salt actor)) k stream)
+goes_as_owed peer calls c next (Asks (Own (ask.CommitPlain statement actor)) k) stream =
+    let execution : Execution = executed c statement no_salt actor in
+    let given : Input = input.Ran execution.reply in
+    let g : Gone = going peer (spent calls) (with_execution c execution) next (k given) stream in
+    if_allowed_is (GoesAsOwed peer next (Asks (Own (ask.CommitPlain statement actor)) k) stream) calls _ _
+    (answer_goes peer next (Own (ask.CommitPlain statement actor)) k stream given refl (Executed execution ∷ [])
+    (line.Adds (next_number c) (Executed execution) ∷ g.lines) g
+    tt tt (execution.reading, execution.count, execution.called, execution.failed, refl) refl refl refl
+    (goes_as_owed peer (spent calls) (with_execution c execution) next (k given) stream))
+    (question_waits peer c next (Own (ask.CommitPlain statement actor)) k stream)
 goes_as_owed peer calls c next (Asks q k) stream = question_waits peer c next q k stream
 goes_as_owed peer calls c next (Over how) stream =
     record { owns = []; nonces = tt; entered = (refl, refl); sends = refl; ends = ends_over peer how stream; stands = inr tt }

@@ -37,7 +37,7 @@ use Rattle.session_world.proofs.Turning.{on_check, on_draw, on_fault, on_locked,
 
 module _ (session : ℕ) (peer : Peer) (next : ℕ) (t : SessionTalk) (here now_here : Output) (next_after : ℕ) (after : SessionTalk) where
   -- a turn on which nothing is printed but what is sent
-  quietly : (calls more : Calls) (c d : Common) (given : Input) (stream unread : Stream) → Acted session next t given here now_here next_after after →
+  pub quietly : (calls more : Calls) (c d : Common) (given : Input) (stream unread : Stream) → Acted session next t given here now_here next_after after →
       going peer calls c next t stream ≡ going peer more d (first_id next t given) (heard t given) unread →
       Leads session peer now_here more d next_after after unread here calls c next t stream
   quietly calls more c d given stream unread a is =
@@ -132,7 +132,7 @@ module _ (session : ℕ) (next : ℕ) (t : SessionTalk) (here now_here : Output)
       (acted session peer more d next t given stream middle now_here next_after after a.printed a.stands a.next_is)
       (printed_first session here middle (line ∷ []) _ (printed ∙ one_line session line here quiet))
 
-  leads_by : (peer : Peer) (calls more : Calls) (c d : Common) (line : Line) (given : Input) (stream : Stream) (middle : Output) → sends_in (line ∷ []) ≡ [] →
+  pub leads_by : (peer : Peer) (calls more : Calls) (c d : Common) (line : Line) (given : Input) (stream : Stream) (middle : Output) → sends_in (line ∷ []) ≡ [] →
       middle ≡ record here { lines = here.lines ++ line_text session line } → Acted session next t given middle now_here next_after after →
       going peer calls c next t stream ≡ after_line line (going peer more d (first_id next t given) (heard t given) stream) →
       Leads session peer now_here more d next_after after stream here calls c next t stream
@@ -254,6 +254,9 @@ module _ (session : ℕ) (peer : Peer) (c : Common) (next : ℕ) (stream : Strea
   call_rests (Asks (Own (ask.Renew who)) k) begun is_call = rests (Asks (Own (ask.Renew who)) k) refl
   call_rests (Asks (Own (ask.Settle checked flags)) k) begun is_call = rests (Asks (Own (ask.Settle checked flags)) k) refl
   call_rests (Asks (Own (ask.SettleLocked user evidences flags)) k) begun is_call = rests (Asks (Own (ask.SettleLocked user evidences flags)) k) refl
+  call_rests (Asks (Own (ask.Commit prepared actor)) k) begun is_call = rests (Asks (Own (ask.Commit prepared actor)) k) refl
+  call_rests (Asks (Own (ask.CommitLocked statement salt actor)) k) begun is_call = rests (Asks (Own (ask.CommitLocked statement salt actor)) k) refl
+  call_rests (Asks (Own (ask.CommitPlain statement actor)) k) begun is_call = rests (Asks (Own (ask.CommitPlain statement actor)) k) refl
   call_rests (Says payload t) begun is_call = absurd begun
   call_rests _ begun is_call = absurd is_call
 

@@ -41,7 +41,7 @@ going_said peer calls c next _ stream = refl
 
 module _ (peer : Peer) (calls : Calls) (c : Common) (next : ℕ) (stream : Stream) where
   -- a session goes on with an input, where these are what is common, the calls and the bytes from then on
-  abbrev with_input : Calls → Common → Stream → SessionTalk → Input → Gone
+  abbrev pub with_input : Calls → Common → Stream → SessionTalk → Input → Gone
   with_input more d s t given = going peer more d (first_id next t given) (heard t given) s
 
   abbrev at_front : (anew : Bool) → (Reading → SessionTalk) → Front → Gone
@@ -130,7 +130,7 @@ module _ (peer : Peer) (calls : Calls) (c : Common) (next : ℕ) (stream : Strea
 
   -- ## Calls of the account store
 
-  allowed : (more : Calls) (done otherwise : Gone) → more ≢ Nothing → if_allowed more done otherwise ≡ done
+  pub allowed : (more : Calls) (done otherwise : Gone) → more ≢ Nothing → if_allowed more done otherwise ≡ done
   allowed Nothing done otherwise some = absurd (some refl)
   allowed One done otherwise some = refl
   allowed All done otherwise some = refl

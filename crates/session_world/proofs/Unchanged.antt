@@ -1,17 +1,19 @@
 -- An event that prints that it is idle changes nothing.
-use Rattle.std.proofs.Common.{◌≡◌, refl, ap, ℕ, zero, suc, if◌then◌else◌, Bool, true, false, List, [], ◌∷◌, ◌++◌, append-nil, Option, Some, None, is_some, option_map, take, drop, arith}
+use Rattle.std.proofs.Common.{◌≡◌, refl, ap, ℕ, zero, suc, if◌then◌else◌, Bool, true, false, List, [], ◌∷◌, ◌++◌, append-nil, Option, Some, None, is_some, option_map, take, drop, arith, Result, Ok, Err}
 use Rattle.account_history.specs.declared.entries.Entry.TheVariants.{Observed, Attempted, Executed}
 use Rattle.login_client.specs.declared.claims.Claim.{Claim}
 use Rattle.login_client.specs.declared.ends.LoginEnd.{LoginEnd}
 use Rattle.login_client.specs.declared.ends.LoginEnd.TheVariants as end
 use Rattle.script_text.specs.declared.event.Event.{Event}
 use Rattle.script_text.specs.declared.event.Event.TheVariants as event
+use Rattle.session_talk.specs.Statements.{statement_in}
+use Rattle.stmt_rules.specs.declared.statement.Statement.{Statement}
 use Rattle.session_world.specs.Events.{AreSame, IdleChangesNothing}
 use Rattle.session_world.specs.Going.{Gone}
-use Rattle.session_world.specs.Replays.{Came, Of, Printed, Replay, Tells, all_down, all_up, alters, begins, begun_with, brings, came_of, cut_off, doing, downs, happens, idles, is_cut_off, is_in, most_turns, of_session, printed_text, result_line, running, runs, sends, task, tells_if, turns, ups, writes}
+use Rattle.session_world.specs.Replays.{Came, NoStatement, Of, Printed, Replay, Tells, administers, all_down, all_up, alters, begins, begun_with, brings, came_of, cut_off, doing, downs, happens, idles, is_cut_off, is_in, most_turns, no_statement_line, of_session, printed_text, result_line, running, runs, sends, task, tells_if, turns, ups, writes}
 use Rattle.client_wire.specs.UnderWay.{Client, claim_of, result_by, sent_to}
 use Rattle.packet_stream.specs.Queue.{has_bytes}
-use Rattle.session_world.specs.Worlds.{Doing, GoesOn, Happened, IsIdle, Move, Place, Sets, ToCall, ToLeave, ToOpen, ToSend, ToSet, World, calling, is_over_at, is_there_at, move, moved, opening, sending, waits_at}
+use Rattle.session_world.specs.Worlds.{Doing, GoesOn, Happened, IsIdle, Move, Executes, Place, Sets, ToCall, ToExecute, ToFail, ToLeave, ToOpen, ToSend, ToSet, World, calling, is_over_at, is_there_at, move, moved, opening, sending, waits_at}
 use Rattle.session_world.specs.declared.calls.Calls.TheVariants.{All, One}
 use Rattle.session_world.specs.declared.calls.Peer.{Peer}
 use Rattle.session_world.specs.declared.calls.Peer.TheVariants.{Closed, Failed}
@@ -30,6 +32,7 @@ PrintsBusy (Of session Stale ∷ more) = Unit {0}
 PrintsBusy (Of session (Ends how) ∷ more) = Unit {0}
 PrintsBusy (Of session Idle ∷ more) = ⊥
 PrintsBusy (Tells session how ∷ more) = Unit {0}
+PrintsBusy (NoStatement ∷ more) = Unit {0}
 
 -- no other line begins as an idle one, with the byte 105
 abbrev first_byte : List ℕ → ℕ
@@ -37,7 +40,7 @@ first_byte [] = 0
 first_byte (b ∷ bytes) = b
 
 not_idle : (number : ℕ) (printed : List Printed) → PrintsBusy printed → printed_text printed ≡ printed_text (Of number Idle ∷ []) → ⊥
-unfolding line_text look_line attempt_line statement_line result_line
+unfolding line_text look_line attempt_line statement_line result_line no_statement_line
 not_idle number [] busy e = let same : 0 ≡ 105 = ap first_byte e in absurd (omega (arith, same))
 not_idle number (Of session (Sends sent) ∷ more) busy e = let same : 115 ≡ 105 = ap first_byte e in absurd (omega (arith, same))
 not_idle number (Of session (Adds k (Observed who look)) ∷ more) busy e = let same : 101 ≡ 105 = ap first_byte e in absurd (omega (arith, same))
@@ -47,6 +50,7 @@ not_idle number (Of session Stale ∷ more) busy e = let same : 115 ≡ 105 = ap
 not_idle number (Of session (Ends how) ∷ more) busy e = let same : 101 ≡ 105 = ap first_byte e in absurd (omega (arith, same))
 not_idle number (Of session Idle ∷ more) busy e = absurd busy
 not_idle number (Tells session how ∷ more) busy e = let same : 108 ≡ 105 = ap first_byte e in absurd (omega (arith, same))
+not_idle number (NoStatement ∷ more) busy e = let same : 97 ≡ 105 = ap first_byte e in absurd (omega (arith, same))
 
 busy_append : (printed more : List Printed) → PrintsBusy printed → PrintsBusy more → PrintsBusy (printed ++ more)
 busy_append [] more x y = y
@@ -56,6 +60,7 @@ busy_append (Of session Stale ∷ printed) more x y = tt
 busy_append (Of session (Ends how) ∷ printed) more x y = tt
 busy_append (Of session Idle ∷ printed) more x y = absurd x
 busy_append (Tells session how ∷ printed) more x y = tt
+busy_append (NoStatement ∷ printed) more x y = tt
 
 busy_session : (session : ℕ) (lines : List Line) → AreBusy lines → PrintsBusy (of_session session lines)
 busy_session session [] busy = tt
@@ -140,7 +145,8 @@ with_none true (Some client) = ap (λ (coming : List ℕ). Some (record client {
 with_none false found = refl
 
 move_stays : (r : Replay) (what : Doing) (m : Move) → IsBusyMove m → Stays r (came_of r what (moved r.world m))
-move_stays r what (Sets reading) busy = busy_stays r (came_of r what (moved r.world (Sets reading))) tt
+move_stays r what (Sets common) busy = busy_stays r (came_of r what (moved r.world (Sets common))) tt
+move_stays r what (Executes did) busy = busy_stays r (came_of r what (moved r.world (Executes did))) (busy_session 0 did.lines busy)
 move_stays r what (GoesOn session peer bytes g) busy =
     busy_stays r (came_of r what (moved r.world (GoesOn session peer bytes g))) (busy_session session g.lines busy)
 move_stays r what (IsIdle session) busy = λ number e. record { world = refl; clients = λ n. with_none _ (r.clients n) }
@@ -150,6 +156,10 @@ doing_stays r what = move_stays r what (move r.world what) (move_busy r.world wh
 
 alters_stay : (r : Replay) (number : ℕ) (client : Client) (printed : List Printed) → PrintsBusy printed → Stays r (alters r number client printed)
 alters_stay r number client printed busy = busy_stays r (alters r number client printed) busy
+
+administers_stay : (r : Replay) (read : Result Statement ℕ) → Stays r (administers r read)
+administers_stay r (Err place) = busy_stays r (administers r (Err place)) tt
+administers_stay r (Ok statement) = doing_stays r (ToExecute statement)
 
 begins_stay : (r : Replay) (number : ℕ) (claim : Claim) → Stays r (begins r number claim)
 begins_stay r number claim = begun (r.world.places number)
@@ -201,6 +211,7 @@ running_stays r number CutsOff = busy_stays r (runs most_turns r number) (runs_b
 
 event_stays : (r : Replay) (event : Event) → Stays r (happens r event)
 event_stays r (event.Clock reading) = doing_stays r (ToSet reading)
+event_stays r (event.Admin text) = administers_stay r (statement_in text)
 event_stays r (event.Open number) = doing_stays r (ToOpen number)
 event_stays r (event.Client number flags user secrets) = begins_stay r number (claim_of flags user secrets)
 event_stays r (event.FromPeer number bytes) = sends_stay r number bytes (r.clients number)
@@ -212,6 +223,7 @@ event_stays r (event.Say number text) = writes_stay r number (0x03 ∷ text) (r.
 event_stays r (event.Command number payload) = writes_stay r number payload (r.clients number)
 event_stays r (event.Close number) = doing_stays r (ToLeave number Closed)
 event_stays r (event.Cut number) = doing_stays r (ToLeave number Failed)
+event_stays r event.FailKeeper = doing_stays r ToFail
 
 pub idle_events_change_nothing : IdleChangesNothing
 idle_events_change_nothing r event number e = event_stays r event number e

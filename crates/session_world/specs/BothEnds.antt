@@ -1,6 +1,7 @@
 -- What holds of both ends of a connection after any events: of a session, and of the login client that is its peer.
--- What the session prints is its transcript; what the client was given of it is what came down.
-use Rattle.std.specs.Prelude.{◌≡◌, IsTrue, ℕ, ◌<◌, ◌^◌, List, [], Contains, Option, Some}
+-- What the session prints is its transcript; what the client was given of it is what came down. Sessions have numbers from 1
+-- on: under the number 0 stand the entries of the administrator.
+use Rattle.std.specs.Prelude.{◌≡◌, ◌≢◌, IsTrue, ℕ, ◌<◌, ◌^◌, List, [], Contains, Option, Some}
 use Rattle.lg_base.specs.declared.errors.Code.{Code}
 use Rattle.lg_base.specs.Errors.{number_of}
 use Rattle.account_history.specs.Failures.{opens}
@@ -30,14 +31,14 @@ client_over openings settings events number = (after_events (new_replay openings
 -- A client has opened only where the reply to its session's first attempt opens.
 abbrev pub OpenedByItsReply : Type 0
 OpenedByItsReply =
-    (openings : List Opening) (settings : Settings) (events : List Event) (number : ℕ) (client : Client) →
+    (openings : List Opening) (settings : Settings) (events : List Event) (number : ℕ) (client : Client) → number ≢ 0 →
     client_over openings settings events number ≡ Some client → client.result ≡ Some end.Opened →
     Opens (first_entered (entries_in (lines_over openings settings events number)))
 
 -- A client was refused with a number only where its session sent an error with that number.
 abbrev pub RefusedByItsError : Type 0
 RefusedByItsError =
-    (openings : List Opening) (settings : Settings) (events : List Event) (number : ℕ) (client : Client) (refusal : ℕ) →
+    (openings : List Opening) (settings : Settings) (events : List Event) (number : ℕ) (client : Client) (refusal : ℕ) → number ≢ 0 →
     client_over openings settings events number ≡ Some client → client.result ≡ Some (end.Refused refusal) →
     (error : Code) × Contains (payloads_of (sends_in (lines_over openings settings events number))) (error_payload error) × (number_of error ≡ refusal)
 
@@ -49,7 +50,7 @@ HasWords _ = Unit {0}
 -- A client to which all has come down that its session sent has ended as the reply to the first attempt tells.
 abbrev pub EndedOnceTold : Type 0
 EndedOnceTold =
-    (openings : List Opening) (settings : Settings) (events : List Event) (number : ℕ) (client : Client) (reply : Reply) →
+    (openings : List Opening) (settings : Settings) (events : List Event) (number : ℕ) (client : Client) (reply : Reply) → number ≢ 0 →
     number < 2 ^ 32 → client_over openings settings events number ≡ Some client →
     first_entered (entries_in (lines_over openings settings events number)) ≡ Some reply → HasWords reply → client.coming ≡ [] →
     client.result ≡ Some (end_told reply)
@@ -57,7 +58,7 @@ EndedOnceTold =
 -- So it has opened, where that reply opens.
 abbrev pub OpenedOnceTold : Type 0
 OpenedOnceTold =
-    (openings : List Opening) (settings : Settings) (events : List Event) (number : ℕ) (client : Client) (reply : Reply) →
+    (openings : List Opening) (settings : Settings) (events : List Event) (number : ℕ) (client : Client) (reply : Reply) → number ≢ 0 →
     number < 2 ^ 32 → client_over openings settings events number ≡ Some client →
     first_entered (entries_in (lines_over openings settings events number)) ≡ Some reply → IsTrue (opens reply) → client.coming ≡ [] →
     client.result ≡ Some end.Opened

@@ -1,10 +1,10 @@
 -- What holds after any events.
-use Rattle.std.specs.Prelude.{◌≡◌, ℕ, ◌==◌, if◌then◌else◌, List, [], ◌∷◌, ◌++◌}
+use Rattle.std.specs.Prelude.{◌≡◌, ◌≢◌, ℕ, ◌==◌, if◌then◌else◌, List, [], ◌∷◌, ◌++◌}
 use Rattle.account_history.specs.declared.entries.Opening.{Opening}
 use Rattle.account_rules.specs.declared.accounts.Settings.{Settings}
 use Rattle.script_text.specs.declared.event.Event.{Event}
 use Rattle.script_text.specs.declared.event.Event.TheVariants as event
-use Rattle.session_world.specs.Replays.{Of, Printed, Replay, Tells, after_events, happens, new_replay, printed_text, task}
+use Rattle.session_world.specs.Replays.{NoStatement, Of, Printed, Replay, Tells, after_events, happens, new_replay, printed_text, task}
 use Rattle.session_world.specs.Transcripts.{IsHistory, IsTranscript, all_lines, peer_at, session_bytes, session_lines}
 use Rattle.session_world.specs.Worlds.{Doing, after_all}
 use Rattle.session_world.specs.declared.running.Task.TheVariants.{Rests}
@@ -26,12 +26,14 @@ abbrev pub lines_among : List Printed → List Line
 lines_among [] = []
 lines_among (Of session line ∷ more) = line ∷ lines_among more
 lines_among (Tells session how ∷ more) = lines_among more
+lines_among (NoStatement ∷ more) = lines_among more
 
 -- those of one session
 abbrev pub lines_for : (number : ℕ) → List Printed → List Line
 lines_for number [] = []
 lines_for number (Of session line ∷ more) = if number == session then line ∷ lines_for number more else lines_for number more
 lines_for number (Tells session how ∷ more) = lines_for number more
+lines_for number (NoStatement ∷ more) = lines_for number more
 
 -- ## Laws
 
@@ -52,10 +54,10 @@ HistoriesAreLegal =
     IsHistory openings settings (after_events r events).world.common.log (lines_among (all_printed r events))
 
 -- What is printed of each session is a transcript, over the bytes that came to it from its client or the script: however
--- the sessions are interleaved and their bytes are cut.
+-- the sessions are interleaved and their bytes are cut. Under the number 0 stand the entries of the administrator.
 abbrev pub SessionsAreTranscripts : Type 0
 SessionsAreTranscripts =
-    (openings : List Opening) (settings : Settings) (events : List Event) (number : ℕ) →
+    (openings : List Opening) (settings : Settings) (events : List Event) (number : ℕ) → number ≢ 0 →
     let r = new_replay openings settings in
     IsTranscript number (peer_at ((after_events r events).world.places number)) (session_bytes number r.world (all_doings r events))
     (lines_for number (all_printed r events))

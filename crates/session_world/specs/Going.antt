@@ -3,7 +3,8 @@
 use Rattle.std.specs.Prelude.{ℕ, ◌+◌, ◌==◌, not, if◌then◌else◌, List, [], ◌∷◌, length}
 use Rattle.packet_frame.specs.Packets.{id_after}
 use Rattle.account_history.specs.declared.entries.Entry.{Entry}
-use Rattle.account_history.specs.declared.entries.Entry.TheVariants.{Observed}
+use Rattle.account_history.specs.declared.entries.Entry.TheVariants.{Executed, Observed}
+use Rattle.account_history.specs.declared.entries.Execution.{Execution}
 use Rattle.session_talk.specs.declared.ends.SessionEnd.{SessionEnd}
 use Rattle.session_talk.specs.declared.ends.SessionEnd.TheVariants as end
 use Rattle.interaction.specs.Talk.{Got, Says, Hears, Asks, Over}
@@ -11,11 +12,13 @@ use Rattle.session_talk.specs.declared.actions.Ask.TheVariants as ask
 use Rattle.session_talk.specs.declared.inputs.Input.{Input}
 use Rattle.session_talk.specs.declared.inputs.Input.TheVariants as input
 use Rattle.session_talk.specs.Logins.{faulted}
+use Rattle.session_talk.specs.Statements.{no_salt}
 use Rattle.session_talk.specs.Talk.{Begins, Own, Question, SessionTalk}
 use Rattle.session_talk.specs.Turns.{wanted}
 use Rattle.packet_stream.specs.Sent.{id_behind}
 use Rattle.packet_stream.specs.Streams.{Stream, behind_of, by_front, front_of}
 use Rattle.world_table.specs.Drawing.{drawn_nonce}
+use Rattle.world_table.specs.Statements.{executed, with_execution}
 use Rattle.world_table.specs.Table.{Common, attempted, is_stale, next_number, replied, seen, with_draw, with_entry}
 use Rattle.world_table.specs.Printing.{Adds, Ends, Line, Sends, Stale}
 use Rattle.session_world.specs.declared.calls.Calls.{Calls}
@@ -70,9 +73,13 @@ if_allowed All allowed otherwise = allowed
 abbrev pub adding : Common → Entry → (Common → Gone) → Gone
 adding c entry goes_on = after_line (Adds (next_number c) entry) (goes_on (with_entry c entry))
 
+-- a statement is executed, and then the session goes on
+abbrev pub executing : Common → Execution → (Common → Gone) → Gone
+executing c execution goes_on = after_line (Adds (next_number c) (Executed execution)) (goes_on (with_execution c execution))
+
 -- How a question is answered, and how the session goes on with the answer, by the calls that are left and by what is
--- common from then on: a draw and a check are answered at once, and a call of the account store where it is allowed. Else
--- the session waits.
+-- common from then on: a draw, a check and the preparing of a statement are answered at once, and a call of the account
+-- store where it is allowed. Else the session waits.
 abbrev pub by_question : Calls → Common → Question → (Calls → Common → Input → Gone) → (waits : Gone) → Gone
 by_question calls c Begins goes_on waits = goes_on calls (with_draw c) (input.Start (drawn_nonce (c.drawn + 1)))
 by_question calls c (Own ask.Draw) goes_on waits = goes_on calls (with_draw c) (input.Drawn (drawn_nonce (c.drawn + 1)))
@@ -91,6 +98,22 @@ by_question calls c (Own (ask.Settle checked flags)) goes_on waits =
 by_question calls c (Own (ask.SettleLocked user evidences flags)) goes_on waits =
     if_allowed calls
     (adding c (attempted c user evidences flags) (λ d. goes_on (spent calls) d (input.Settled (replied c user evidences flags))))
+    waits
+by_question calls c (Own (ask.Prepare look statement salt actor)) goes_on waits =
+    goes_on calls c (input.Prepared (record { look = look; statement = statement; salt = salt; actor = actor }))
+by_question calls c (Own (ask.Commit prepared actor)) goes_on waits =
+    if_allowed calls
+    (if is_stale c prepared.look then after_line Stale (goes_on (spent calls) c (input.StaleStatement prepared.statement))
+    else executing c (executed c prepared.statement prepared.salt actor)
+    (λ d. goes_on (spent calls) d (input.Ran (executed c prepared.statement prepared.salt actor).reply)))
+    waits
+by_question calls c (Own (ask.CommitLocked statement salt actor)) goes_on waits =
+    if_allowed calls
+    (executing c (executed c statement salt actor) (λ d. goes_on (spent calls) d (input.Ran (executed c statement salt actor).reply)))
+    waits
+by_question calls c (Own (ask.CommitPlain statement actor)) goes_on waits =
+    if_allowed calls
+    (executing c (executed c statement no_salt actor) (λ d. goes_on (spent calls) d (input.Ran (executed c statement no_salt actor).reply)))
     waits
 by_question calls c _ goes_on waits = waits
 

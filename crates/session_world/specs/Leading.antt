@@ -4,7 +4,9 @@ use Rattle.account_history.specs.declared.entries.Who.{Who}
 use Rattle.session_talk.specs.declared.actions.Ask.{Ask}
 use Rattle.session_talk.specs.declared.actions.Ask.TheVariants as ask
 use Rattle.packet_stream.specs.Sent.{id_behind_all, sent_from}
+use Rattle.session_talk.specs.Statements.{no_salt}
 use Rattle.session_talk.specs.Talk.{SessionTalk}
+use Rattle.stmt_rules.specs.declared.statement.Statement.{Statement}
 use Rattle.session_talk.specs.Turns.{first_id, heard, rest, said}
 use Rattle.session_talk.specs.declared.inputs.Input.{Input}
 use Rattle.session_talk.specs.declared.inputs.Input.TheVariants as input
@@ -47,6 +49,8 @@ pub record LeadsTo (session : ℕ) (here : Output) (coming : Gone) (there : Outp
 abbrev pub IsGivenBack : Input → Type 0
 IsGivenBack (input.Checked checked) = Unit {0}
 IsGivenBack (input.Stale evidences) = Unit {0}
+IsGivenBack (input.Prepared prepared) = Unit {0}
+IsGivenBack (input.StaleStatement statement) = Unit {0}
 IsGivenBack _ = ⊥
 
 -- the same, where a session goes on from one state to another
@@ -73,10 +77,19 @@ IsLookAsked (ask.Observe whose) who = whose ≡ who
 IsLookAsked (ask.Renew whose) who = whose ≡ who
 IsLookAsked _ who = ⊥
 
+-- a statement is to be executed that isn't prepared
+abbrev pub IsExecutionAsked : Ask → Statement → (salt : List ℕ) → (actor : ℕ) → Type 0
+IsExecutionAsked (ask.CommitLocked what salted asking) statement salt actor = (what ≡ statement) × (salted ≡ salt) × (asking ≡ actor)
+IsExecutionAsked (ask.CommitPlain what asking) statement salt actor = (what ≡ statement) × (no_salt ≡ salt) × (asking ≡ actor)
+IsExecutionAsked _ statement salt actor = ⊥
+
 -- a call of the account store is asked for
 abbrev pub IsCall : Ask → Type 0
 IsCall (ask.Observe who) = Unit {0}
 IsCall (ask.Renew who) = Unit {0}
 IsCall (ask.Settle checked flags) = Unit {0}
 IsCall (ask.SettleLocked user evidences flags) = Unit {0}
+IsCall (ask.Commit prepared actor) = Unit {0}
+IsCall (ask.CommitLocked statement salt actor) = Unit {0}
+IsCall (ask.CommitPlain statement actor) = Unit {0}
 IsCall _ = ⊥

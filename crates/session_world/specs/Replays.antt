@@ -1,6 +1,6 @@
 -- A replay: a world of sessions, and the login clients that some of them have as their peers. What either end sends is
 -- under way until an event brings it to the other.
-use Rattle.std.specs.Prelude.{ℕ, zero, suc, ◌==◌, Bool, true, false, if◌then◌else◌, List, [], ◌∷◌, ◌++◌, take, drop, Option, Some, None, is_some, option_map, codes, decimal}
+use Rattle.std.specs.Prelude.{ℕ, zero, suc, ◌==◌, Bool, true, false, if◌then◌else◌, List, [], ◌∷◌, ◌++◌, take, drop, Option, Some, None, is_some, option_map, Result, Ok, Err, codes, decimal}
 use Rattle.account_history.specs.declared.entries.Opening.{Opening}
 use Rattle.account_rules.specs.declared.accounts.Settings.{Settings}
 use Rattle.client_wire.specs.UnderWay.{Client, claim_of, client_after, new_client, result_by, sent_to, with_client}
@@ -11,8 +11,10 @@ use Rattle.login_client.specs.declared.ends.LoginEnd.{LoginEnd}
 use Rattle.login_client.specs.declared.ends.LoginEnd.TheVariants as end
 use Rattle.script_text.specs.declared.event.Event.{Event}
 use Rattle.script_text.specs.declared.event.Event.TheVariants as event
+use Rattle.session_talk.specs.Statements.{statement_in}
 use Rattle.session_world.specs.Lines.{sends_in}
-use Rattle.session_world.specs.Worlds.{Doing, Happened, Place, ToCall, ToIdle, ToLeave, ToOpen, ToSend, ToSet, World, does, is_over_at, is_there_at, new_world, waits_at}
+use Rattle.stmt_rules.specs.declared.statement.Statement.{Statement}
+use Rattle.session_world.specs.Worlds.{Doing, Happened, Place, ToCall, ToExecute, ToFail, ToIdle, ToLeave, ToOpen, ToSend, ToSet, World, does, is_over_at, is_there_at, new_world, waits_at}
 use Rattle.session_world.specs.declared.calls.Calls.TheVariants.{One, All}
 use Rattle.session_world.specs.declared.running.Task.{Task}
 use Rattle.session_world.specs.declared.running.Task.TheVariants.{Answers, GoesDown, GoesUp, CutsOff, Rests}
@@ -30,10 +32,11 @@ new_replay openings settings = record { world = new_world openings settings; cli
 
 -- ## What comes of an event
 
--- a line of a session, or the result of its client
+-- a line of a session, or the result of its client; or that a text of the administrator is no statement
 pub data Printed : Type 0 where
   Of : (session : ℕ) → Line → Printed
   Tells : (session : ℕ) → LoginEnd → Printed
+  NoStatement : Printed
 
 -- the replay after it, what is printed, and what was done to the world of sessions
 pub record Came : Type 0 where
@@ -45,9 +48,14 @@ pub record Came : Type 0 where
 unfoldable pub result_line : (session : ℕ) → LoginEnd → List ℕ
 result_line session how = codes "login " ++ decimal session ++ 32 ∷ end_words how ++ 10 ∷ []
 
+-- the line of a text that is no statement
+unfoldable pub no_statement_line : List ℕ
+no_statement_line = codes "admin 1064" ++ 10 ∷ []
+
 abbrev pub printed_line : Printed → List ℕ
 printed_line (Of session line) = line_text session line
 printed_line (Tells session how) = result_line session how
+printed_line NoStatement = no_statement_line
 
 abbrev pub printed_text : List Printed → List ℕ
 printed_text [] = []
@@ -89,6 +97,8 @@ bytes_of h = packets_text (sends_in h.lines)
 -- the session to which it is done
 abbrev pub session_of : Doing → ℕ
 session_of (ToSet reading) = 0
+session_of ToFail = 0
+session_of (ToExecute statement) = 0
 session_of (ToOpen number) = number
 session_of (ToSend number bytes) = number
 session_of (ToCall number calls) = number
@@ -105,6 +115,13 @@ came_of r what h = record {
 -- something is done to the world of sessions
 abbrev pub doing : Replay → Doing → Came
 doing r what = came_of r what (does r.world what)
+
+-- ## The administrator
+
+-- a statement is executed, or the text is none
+abbrev pub administers : Replay → Result Statement ℕ → Came
+administers r (Ok statement) = doing r (ToExecute statement)
+administers r (Err place) = record { replay = r; printed = NoStatement ∷ []; doings = [] }
 
 -- ## Clients
 
@@ -226,6 +243,7 @@ running r number _ = runs most_turns r number
 
 abbrev pub happens : Replay → Event → Came
 happens r (event.Clock reading) = doing r (ToSet reading)
+happens r (event.Admin text) = administers r (statement_in text)
 happens r (event.Open number) = doing r (ToOpen number)
 happens r (event.Client number flags user secrets) = begins r number (claim_of flags user secrets)
 happens r (event.FromPeer number bytes) = sends r number bytes (r.clients number)
@@ -237,6 +255,7 @@ happens r (event.Say number text) = writes r number (0x03 ∷ text) (r.clients n
 happens r (event.Command number payload) = writes r number payload (r.clients number)
 happens r (event.Close number) = doing r (ToLeave number peer.Closed)
 happens r (event.Cut number) = doing r (ToLeave number peer.Failed)
+happens r event.FailKeeper = doing r ToFail
 
 -- all events, one after another
 abbrev pub after_events : Replay → List Event → Replay

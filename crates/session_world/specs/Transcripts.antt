@@ -1,5 +1,5 @@
 -- What doings come to: the lines and the bytes of each session, and what holds of them after any doings.
-use Rattle.std.specs.Prelude.{◌≡◌, ℕ, ◌+◌, ◌==◌, if◌then◌else◌, List, [], ◌∷◌, ◌++◌, Option, Some, None, option_to_list}
+use Rattle.std.specs.Prelude.{◌≡◌, ◌≢◌, ℕ, ◌+◌, ◌==◌, if◌then◌else◌, List, [], ◌∷◌, ◌++◌, Option, Some, None, option_to_list}
 use Rattle.account_history.specs.Histories.{history}
 use Rattle.account_history.specs.Legal.{IsLegal}
 use Rattle.account_history.specs.declared.entries.Entry.{Entry}
@@ -14,13 +14,14 @@ use Rattle.session_world.specs.declared.calls.Peer.{Peer}
 use Rattle.session_world.specs.declared.calls.Peer.TheVariants.{Open, Closed, Failed}
 use Rattle.world_table.specs.Printing.{Line, Idle}
 use Rattle.session_world.specs.Lines.{Numbered, ends_in, entries_in, numbered_in, sends_in}
-use Rattle.session_world.specs.Worlds.{Doing, GoesOn, IsIdle, Move, Place, Sets, World, after_all, does, move, new_world}
+use Rattle.session_world.specs.Worlds.{Doing, Executes, GoesOn, IsIdle, Move, Place, Sets, World, after_all, does, move, new_world}
 
 -- ## Over doings
 
 -- the lines that are printed
 abbrev pub lines_in : Move → List Line
-lines_in (Sets reading) = []
+lines_in (Sets common) = []
+lines_in (Executes did) = did.lines
 lines_in (GoesOn number peer bytes g) = g.lines
 lines_in (IsIdle number) = Idle ∷ []
 
@@ -30,7 +31,8 @@ all_lines w (first ∷ doings) = lines_in (move w first) ++ all_lines (does w fi
 
 -- of them, those of one session
 abbrev pub lines_of : (number : ℕ) → Move → List Line
-lines_of number (Sets reading) = []
+lines_of number (Sets common) = []
+lines_of number (Executes did) = if number == 0 then did.lines else []
 lines_of number (GoesOn other peer bytes g) = if number == other then g.lines else []
 lines_of number (IsIdle other) = if number == other then Idle ∷ [] else []
 
@@ -40,7 +42,8 @@ session_lines number w (first ∷ doings) = lines_of number (move w first) ++ se
 
 -- the bytes that come to one session
 abbrev pub bytes_of : (number : ℕ) → Move → List ℕ
-bytes_of number (Sets reading) = []
+bytes_of number (Sets common) = []
+bytes_of number (Executes did) = []
 bytes_of number (GoesOn other peer bytes g) = if number == other then bytes else []
 bytes_of number (IsIdle other) = []
 
@@ -86,10 +89,10 @@ pub record IsTranscript (number : ℕ) (peer : Peer) (bytes : List ℕ) (lines :
   pub is : Transcript number (as_told peer) bytes (entries_in lines) (sends_in lines) how
 
 -- What is printed of each session is a transcript, over the bytes that came to it: however the sessions are interleaved
--- and their bytes are cut.
+-- and their bytes are cut. Under the number 0 stand the entries of the administrator.
 abbrev pub DoingsAreTranscripts : Type 0
 DoingsAreTranscripts =
-    (openings : List Opening) (settings : Settings) (doings : List Doing) (number : ℕ) →
+    (openings : List Opening) (settings : Settings) (doings : List Doing) (number : ℕ) → number ≢ 0 →
     let w = new_world openings settings in
     IsTranscript number (peer_at ((after_all w doings).places number)) (session_bytes number w doings) (session_lines number w doings)
 

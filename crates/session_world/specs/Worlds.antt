@@ -14,7 +14,9 @@ use Rattle.packet_stream.specs.Streams.{Stream}
 use Rattle.session_talk.specs.declared.actions.Ask.{Ask}
 use Rattle.session_talk.specs.declared.actions.Ask.TheVariants as ask
 use Rattle.session_world.specs.Going.{Gone, going}
-use Rattle.world_table.specs.Table.{Common}
+use Rattle.stmt_rules.specs.declared.statement.Statement.{Statement}
+use Rattle.world_table.specs.Statements.{Administered, administered}
+use Rattle.world_table.specs.Table.{Common, with_failure}
 use Rattle.world_table.specs.Printing.{Line, Idle}
 use Rattle.session_world.specs.declared.calls.Calls.{Calls}
 use Rattle.session_world.specs.declared.calls.Calls.TheVariants.{Nothing}
@@ -36,7 +38,7 @@ pub record World : Type 0 where
 -- the world of a start
 abbrev pub new_world : List Opening → Settings → World
 new_world openings settings = record {
-  common = record { log = record { start = opening_start openings settings; entries = [] }; clock = 0; drawn = 0 };
+  common = record { log = record { start = opening_start openings settings; entries = [] }; clock = 0; drawn = 0; fails = false };
   places = λ number. None;
 }
 
@@ -79,6 +81,10 @@ is_call (ask.Renew who) = true
 is_call (ask.Check look evidences) = false
 is_call (ask.Settle checked flags) = true
 is_call (ask.SettleLocked user evidences flags) = true
+is_call (ask.Prepare look statement salt actor) = false
+is_call (ask.Commit prepared actor) = true
+is_call (ask.CommitLocked statement salt actor) = true
+is_call (ask.CommitPlain statement actor) = true
 is_call (ask.Ended how) = false
 
 -- a session waits for a call of the account store
@@ -127,20 +133,24 @@ more_at place bytes = record place { unread = record { place = place.unread.plac
 
 -- ## What is done
 
--- the clock is set; a session begins; its peer sends bytes; it is answered so many calls of the account store; its peer
--- ends, or its link fails; or nothing can be done
+-- the clock is set; the keeper's next call is to fail; a statement of the administrator is executed; a session begins; its
+-- peer sends bytes; it is answered so many calls of the account store; its peer ends, or its link fails; or nothing can be
+-- done
 pub data Doing : Type 0 where
   ToSet : (reading : ℕ) → Doing
+  ToFail : Doing
+  ToExecute : Statement → Doing
   ToOpen : (session : ℕ) → Doing
   ToSend : (session : ℕ) → (bytes : List ℕ) → Doing
   ToCall : (session : ℕ) → Calls → Doing
   ToLeave : (session : ℕ) → Peer → Doing
   ToIdle : (session : ℕ) → Doing
 
--- What it comes to: the clock is set; or a session goes on, whose peer stands so and to which further bytes have come;
--- or nothing can be done.
+-- What it comes to: something is set that is common; or a statement is executed; or a session goes on, whose peer stands so
+-- and to which further bytes have come; or nothing can be done.
 pub data Move : Type 0 where
-  Sets : (reading : ℕ) → Move
+  Sets : Common → Move
+  Executes : Administered → Move
   GoesOn : (session : ℕ) → Peer → (bytes : List ℕ) → Gone → Move
   IsIdle : (session : ℕ) → Move
 
@@ -170,16 +180,19 @@ leaving w number peer (Some place) =
     else IsIdle number
 
 abbrev pub move : World → Doing → Move
-move w (ToSet reading) = Sets reading
+move w (ToSet reading) = Sets (record w.common { clock = reading })
+move w ToFail = Sets (with_failure w.common)
+move w (ToExecute statement) = Executes (administered w.common statement)
 move w (ToOpen number) = opening w number (w.places number)
 move w (ToSend number bytes) = sending w number bytes (w.places number)
 move w (ToCall number calls) = calling w number calls (w.places number)
 move w (ToLeave number peer) = leaving w number peer (w.places number)
 move w (ToIdle number) = IsIdle number
 
--- the world after it, and its lines
+-- the world after it, and its lines: what is done for no session stands under the number 0
 abbrev pub moved : World → Move → Happened
-moved w (Sets reading) = record { world = record w { common = record w.common { clock = reading } }; session = 0; lines = [] }
+moved w (Sets common) = record { world = record w { common = common }; session = 0; lines = [] }
+moved w (Executes did) = record { world = record w { common = did.common }; session = 0; lines = did.lines }
 moved w (GoesOn number peer bytes g) = goes w number peer g
 moved w (IsIdle number) = idle w number
 

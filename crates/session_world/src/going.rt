@@ -10,16 +10,18 @@ ghost use Rattle.std.specs.Prelude.{◌≡◌, ◌≢◌, ◌≤◌, ◌↔◌, 
 
 use crate::calls::Calls;
 use crate::output::Output;
+use crate::statements::{commit, execute, prepare_on};
 use crate::turns::{Seat, check_evidence, draw, look, read, settle, settle_locked};
 use lg_base::Memory;
 use session_talk::Ask;
 use std::alloc::Global;
 use world_table::Table;
 use world_table::printing::print_end;
+use world_table::statements::no_salt;
 
-/// The most turns that a session takes until it reads a packet or rests: it asks at most seven questions between two
+/// The most turns that a session takes until it reads a packet or rests: it asks at most eight questions between two
 /// packets, and then may be told that no packet comes.
-const TURNS: u32 = 8;
+const TURNS: u32 = 9;
 
 /// What one turn leads to.
 #[derive(Drop)]
@@ -80,6 +82,15 @@ fn take_turn(
             check_evidence(seat, look, evidences, out)?,
             calls,
         )),
+        Ask::Prepare {
+            look,
+            statement,
+            salt,
+            actor,
+        } => Ok(Turn::Goes(
+            prepare_on(alloc, seat, look, statement, salt, actor, out)?,
+            calls,
+        )),
         Ask::Ended(how) => {
             print_end(&mut out.lines, seat.number, how)?;
             Ok(Turn::Rests(Ask::Ended(how)))
@@ -106,6 +117,38 @@ fn take_turn(
                 evidences,
                 flags,
             },
+            calls,
+            table,
+            out,
+        ),
+        Ask::Commit { prepared, actor } => take_call(
+            alloc,
+            seat,
+            Ask::Commit { prepared, actor },
+            calls,
+            table,
+            out,
+        ),
+        Ask::CommitLocked {
+            statement,
+            salt,
+            actor,
+        } => take_call(
+            alloc,
+            seat,
+            Ask::CommitLocked {
+                statement,
+                salt,
+                actor,
+            },
+            calls,
+            table,
+            out,
+        ),
+        Ask::CommitPlain { statement, actor } => take_call(
+            alloc,
+            seat,
+            Ask::CommitPlain { statement, actor },
             calls,
             table,
             out,
@@ -150,6 +193,22 @@ fn take_call(
             flags,
         } => Ok(Turn::Goes(
             settle_locked(seat, &user, &evidences, flags, table, out)?,
+            left,
+        )),
+        Ask::Commit { prepared, actor } => Ok(Turn::Goes(
+            commit(alloc, seat, prepared, actor, table, out)?,
+            left,
+        )),
+        Ask::CommitLocked {
+            statement,
+            salt,
+            actor,
+        } => Ok(Turn::Goes(
+            execute(alloc, seat, &statement, &salt, actor, table, out)?,
+            left,
+        )),
+        Ask::CommitPlain { statement, actor } => Ok(Turn::Goes(
+            execute(alloc, seat, &statement, &no_salt(), actor, table, out)?,
             left,
         )),
         other => Ok(Turn::Rests(other)),

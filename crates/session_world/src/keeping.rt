@@ -104,6 +104,10 @@ fn is_account_call(asks: &Ask) -> bool
         Ask::Check { .. } => false,
         Ask::Settle { .. } => true,
         Ask::SettleLocked { .. } => true,
+        Ask::Prepare { .. } => false,
+        Ask::Commit { .. } => true,
+        Ask::CommitLocked { .. } => true,
+        Ask::CommitPlain { .. } => true,
         Ask::Ended(_) => false,
     }
 }

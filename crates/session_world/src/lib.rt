@@ -24,6 +24,7 @@ pub mod running;
 pub mod sessions;
 pub mod stage;
 pub mod state;
+pub mod statements;
 mod telling;
 pub mod turns;
 pub mod under_way;

@@ -138,6 +138,7 @@ impl Stage {
                 self.set_clock(*reading);
                 Ok(())
             }
+            Event::Admin { text } => self.administer(alloc, text.as_slice(), out),
             Event::Open { session } => self.open(alloc, *session, out),
             Event::Client {
                 session,
@@ -164,6 +165,7 @@ impl Stage {
             ),
             Event::Close { session } => self.leave(alloc, *session, Peer::Closed, out),
             Event::Cut { session } => self.leave(alloc, *session, Peer::Failed, out),
+            Event::FailKeeper => self.fail_keeper(),
         }
     }
 }

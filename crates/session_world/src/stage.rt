@@ -1,24 +1,28 @@
 //! What is kept of a replay, and what is done to its sessions.
 
+ghost use Rattle.account_history.specs.Sound.{IsWritten};
 ghost use Rattle.client_wire.specs.Clients.{AreClients};
 ghost use Rattle.client_wire.specs.UnderWay.{Client, claim_of};
 ghost use Rattle.login_client.specs.Claims.{AreFit, AreUsable};
 ghost use Rattle.login_client.specs.Zeros.{HasNoZero};
-ghost use Rattle.session_world.specs.Replays.{Replay, begins, doing, sends, with_sent};
+ghost use Rattle.session_world.specs.Replays.{Replay, administers, begins, doing, sends, with_sent};
+ghost use Rattle.session_talk.specs.Statements.{statement_in};
 ghost use Rattle.session_world.specs.Staged.{Leaves, Stands};
-ghost use Rattle.session_world.specs.Worlds.{ToCall, ToLeave, ToOpen, ToSend, ToSet};
+ghost use Rattle.session_world.specs.Worlds.{ToCall, ToExecute, ToFail, ToLeave, ToOpen, ToSend, ToSet};
 ghost use Rattle.std.specs.Prelude.{◌≡◌, ◌++◌, ℕ, Option, is_some, true, OnOk};
 
 use crate::calls::{Calls, Peer};
 use crate::output::Output;
 use crate::state::State;
-use crate::telling::print_idles;
+use crate::telling::{print_idles, print_no_statement};
 use client_wire::HeldClient;
 use client_wire::clients::{keep, take};
 use lg_base::{Memory, Out};
 use login_client::Secrets;
 use std::alloc::Global;
 use std::collections::BTreeMap;
+use stmt_rules::Statement;
+use stmt_syntax::{SyntaxFault, read};
 
 /// The world of sessions, and the clients of those that have one.
 #[derive(Drop)]
@@ -26,6 +30,9 @@ pub struct Stage {
     pub state: State,
     pub clients: BTreeMap<u32, HeldClient>,
 }
+
+/// The number under which that stands which is done for no session.
+const NO_SESSION: u32 = 0;
 
 /// Whether a session has a client.
 fn has_client(clients: &BTreeMap<u32, HeldClient>, number: u32) -> bool
@@ -53,6 +60,34 @@ impl Stage {
         ensures { (r : Replay) → Stands self.old r → Stands self.new (doing r (ToSet reading)).replay }
     {
         self.state.table.set_clock(reading);
+    }
+
+    /// The next call of the keeper is to fail.
+    pub fn fail_keeper(&mut self) -> Result<(), Memory>
+        ensures { (r : Replay) → Stands self.old r → OnOk result (Stands self.new (doing r ToFail).replay) }
+    {
+        self.state.table.fail_keeper()
+    }
+
+    /// A statement of the administrator, which is as the grammar has it, is executed.
+    fn execute(&mut self, alloc: Global, statement: &Statement, out: &mut Out) -> Result<(), Memory>
+        requires { IsWritten statement.now }
+        ensures { (r : Replay) → Stands self.old r → OnOk result (Leaves (doing r (ToExecute statement.now)) self.new out.old out.new) }
+    {
+        let mut put = Output::new(alloc);
+        self.state.administer(alloc, statement, &mut put)?;
+        self.put(NO_SESSION, &put, out)
+    }
+
+    /// A text of the administrator is executed as a statement, if it is one.
+    pub fn administer(&mut self, alloc: Global, text: &[u8], out: &mut Out) -> Result<(), Memory>
+        ensures { (r : Replay) → Stands self.old r → OnOk result (Leaves (administers r (statement_in text.now)) self.new out.old out.new) }
+    {
+        match read(alloc, text) {
+            Ok(statement) => self.execute(alloc, &statement, out),
+            Err(SyntaxFault::At { .. }) => print_no_statement(out),
+            Err(SyntaxFault::Memory) => Err(Memory),
+        }
     }
 
     /// A session begins, unless one of its number did.

@@ -1,9 +1,10 @@
 //! What is kept of a world of sessions, and what is done to it.
 
+ghost use Rattle.account_history.specs.Sound.{IsWritten};
 ghost use Rattle.session_world.specs.Leading.{with_lines};
 ghost use Rattle.session_world.specs.Sessions.{AreBeside, Follows, put_by, world_of};
 ghost use Rattle.session_world.specs.Worlds as world;
-ghost use Rattle.session_world.specs.Worlds.{AreAt, IsAt, Place, going_on, idle, is_over_at, is_there_at, waits_at};
+ghost use Rattle.session_world.specs.Worlds.{AreAt, IsAt, Place, ToExecute, going_on, idle, is_over_at, is_there_at, waits_at};
 ghost use Rattle.std.specs.Prelude.{◌≡◌, [], ◌∷◌, ℕ, Option, Some, is_some, OnOk};
 ghost use Rattle.world_table.specs.Printing.{Idle};
 
@@ -15,6 +16,7 @@ use crate::sessions::{keep, take};
 use lg_base::Memory;
 use std::alloc::Global;
 use std::collections::BTreeMap;
+use stmt_rules::Statement;
 use world_table::Table;
 
 /// What all sessions have in common, and the sessions by their numbers.
@@ -85,6 +87,20 @@ impl State {
     {
         out.put_idle(number)?;
         keep(&mut self.sessions, number, held)
+    }
+
+    /// A statement of the administrator, which is as the grammar has it, is executed.
+    pub fn administer(
+        &mut self,
+        alloc: Global,
+        statement: &Statement,
+        out: &mut Output,
+    ) -> Result<(), Memory>
+        requires { IsWritten statement.now }
+        ensures left { (places : ℕ → Option Place) → AreAt self.old.sessions places → OnOk result (Follows (world.does (world_of self.old.table places) (ToExecute statement.now)) self.new.table self.new.sessions) }
+        ensures printed { (places : ℕ → Option Place) → OnOk result (out.new ≡ put_by (world.does (world_of self.old.table places) (ToExecute statement.now)) out.old) }
+    {
+        self.table.administer(alloc, statement, &mut out.lines)
     }
 
     /// A session begins, unless one of its number did.

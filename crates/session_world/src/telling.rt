@@ -1,6 +1,6 @@
-//! The lines of a client's result, and of an event that does nothing.
+//! The lines of a client's result, of an event that does nothing, and of a text that is no statement.
 
-ghost use Rattle.session_world.specs.Replays.{Of, printed_text, result_line, tells_if};
+ghost use Rattle.session_world.specs.Replays.{NoStatement, Of, no_statement_line, printed_text, result_line, tells_if};
 ghost use Rattle.std.specs.Prelude.{◌≡◌, [], ◌∷◌, ◌++◌, OnOk};
 ghost use Rattle.world_table.specs.Printing.{Idle};
 
@@ -14,6 +14,14 @@ pub fn print_idles(out: &mut Out, session: u32) -> Result<(), Memory>
     ensures { OnOk result (out.new ≡ out.old ++ printed_text (Of session Idle ∷ [])) }
 {
     print_idle(out, session)
+}
+
+/// A text of the administrator is no statement.
+#[tactic(auto, unfolding(crate::specs::Replays::no_statement_line))]
+pub fn print_no_statement(out: &mut Out) -> Result<(), Memory>
+    ensures { OnOk result (out.new ≡ out.old ++ printed_text (NoStatement ∷ [])) }
+{
+    out.bytes(b"admin 1064\n")
 }
 
 /// The line of a client's result.

@@ -34,7 +34,12 @@ pub struct Seat {
 }
 
 /// Gives a session an input, and puts out what it sends because of it. What it asks for next is handed out.
-fn act(session: &mut Session, number: u32, input: Input, out: &mut Output) -> Result<Ask, Memory>
+pub fn act(
+    session: &mut Session,
+    number: u32,
+    input: Input,
+    out: &mut Output,
+) -> Result<Ask, Memory>
     requires answers { IsTrue (is_answer (talk_of_session session.old) input) }
     requires asked { IsAsked (talk_of_session session.old) input }
     ensures acted { OnOk result (Acted number (next_of session.old) (talk_of_session session.old) input out.old out.new (next_of session.new) (talk_of_session session.new)) }

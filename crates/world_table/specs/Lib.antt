@@ -1,3 +1,4 @@
 pub mod Drawing
 pub mod Table
 pub mod Printing
+pub mod Statements

@@ -1,5 +1,5 @@
 -- What all sessions of a world have in common, and what is answered and noted in it.
-use Rattle.std.specs.Prelude.{ℕ, ◌+◌, nat_lt, Bool, List, length}
+use Rattle.std.specs.Prelude.{◌≡◌, ℕ, ◌+◌, ◌≤◌, nat_lt, Bool, true, List, length}
 use Rattle.factor_chain.specs.declared.credentials.Look.{Look}
 use Rattle.factor_chain.specs.declared.evidence_list.Evidence.{Evidence}
 use Rattle.account_history.specs.declared.entries.Entry.{Entry}
@@ -9,19 +9,26 @@ use Rattle.account_history.specs.declared.entries.Reply.{Reply}
 use Rattle.account_history.specs.declared.entries.Who.{Who}
 use Rattle.account_history.specs.Answers.{attempt_reply, look_of}
 use Rattle.account_history.specs.Histories.{history, noted}
+use Rattle.account_history.specs.Legal.{last_count}
 use Rattle.account_history.specs.Stamps.{stamp}
 
--- what all sessions of a world have in common: the history, the reading of the clock, and how many nonces were drawn
+-- what all sessions of a world have in common: the history, the reading of the clock, how many nonces and salts were drawn,
+-- and whether the next call of the keeper fails
 pub record Common : Type 0 where
   pub log : Log
   pub clock : ℕ
   pub drawn : ℕ
+  pub fails : Bool
 
 abbrev pub with_entry : Common → Entry → Common
 with_entry c entry = record c { log = noted c.log entry }
 
 abbrev pub with_draw : Common → Common
 with_draw c = record c { drawn = c.drawn + 1 }
+
+-- the next call of the keeper fails
+abbrev pub with_failure : Common → Common
+with_failure c = record c { fails = true }
 
 -- the number of the next entry
 abbrev pub next_number : Common → ℕ
@@ -47,3 +54,9 @@ attempted c user evidences flags = Attempted (record {
 -- the user's credentials have changed since the look
 abbrev pub is_stale : Common → Look → Bool
 is_stale c look = nat_lt look.stamp (stamp (history c.log) look.user)
+
+-- what the code counts: the entries of the history, and the keeper's faults that the history tells
+pub record AreCounted (entries faults : ℕ) (log : Log) (kept : ℕ) : Type 0 where
+  pub entries_are : entries ≡ length log.entries
+  pub faults_are : faults ≡ last_count (history log)
+  pub keeper_has : faults ≤ kept

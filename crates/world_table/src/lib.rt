@@ -8,6 +8,7 @@
 #![tactic(auto)]
 
 pub mod printing;
+pub mod statements;
 pub mod table;
 
 pub use table::Table;

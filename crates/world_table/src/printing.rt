@@ -6,7 +6,7 @@ ghost use Rattle.world_table.specs.Printing as text;
 ghost use Rattle.world_table.specs.Printing.{line_text, lines_text, send_lines};
 ghost use Rattle.std.specs.Prelude.{◌≡◌, [], ◌∷◌, ◌++◌, OnOk, decimal};
 
-use account_history::Reply;
+use account_history::{Reply, StmtReply};
 use lg_base::{Bytes, Memory, Out};
 use packet_stream::id_behind;
 use session_talk::SessionEnd;
@@ -102,6 +102,30 @@ pub fn print_attempt(out: &mut Out, number: u64, user: &[u8], reply: Reply) -> R
     out.byte(b' ')?;
     out.bytes(reply_word(reply))?;
     out.byte(b'\n')
+}
+
+/// The number of a statement's error, or 0 where it was done.
+fn statement_number(reply: &StmtReply) -> u16
+    ensures { result ≡ text.stmt_number reply.now }
+{
+    match reply {
+        StmtReply::Done => 0,
+        StmtReply::Refused(code) => code.number(),
+    }
+}
+
+/// The line of a statement.
+#[tactic(auto, unfolding(crate::specs::Printing::statement_line))]
+pub fn print_statement(out: &mut Out, number: u64, reply: &StmtReply) -> Result<(), Memory>
+    ensures { OnOk result (out.new ≡ out.old ++ text.statement_line number reply.now) }
+{
+    add_numbered(out, b"entry ", number, b' ')?;
+    add_numbered(
+        out,
+        b"statement ",
+        u64::from(statement_number(reply)),
+        b'\n',
+    )
 }
 
 /// The line of a stale answer.

@@ -13,9 +13,9 @@ invariant-turns l = record {
       l.fn.out l.fn.calls l.fn.table (next_of l.fn.seat.session) (talk_of_session l.fn.seat.session) l.fn.seat.inbox;
   asks : l.asks ≡ asked (next_of l.seat.session) (talk_of_session l.seat.session);
   begun : IsBegun (talk_of_session l.seat.session);
-  turns : l.turns ≤ 8;
+  turns : l.turns ≤ 9;
   lasts : Lasts l.turns (talk_of_session l.seat.session);
 }
 
 abbrev pub decreases-turns : goal.decreases-turns
-decreases-turns l = 9 * length l.seat.inbox.bytes + l.turns
+decreases-turns l = 10 * length l.seat.inbox.bytes + l.turns

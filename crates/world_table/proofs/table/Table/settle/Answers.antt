@@ -1,0 +1,12 @@
+use Rattle.world_table.proofs.Counted.{after_attempt}
+use Rattle.world_table.proofs.table.Table.settle.Goals as goal
+
+pub invariant_of-self : goal.invariant_of-self
+invariant_of-self c =
+    after_attempt c.self.inside.accounts c.attempt_here-reply.new.self c.self.inside.entries c.self.inside.faults c.self.inside.keeper.plan.faults
+    c.in_ok-entries.entries c.self.invariant (c.in_ok-entries.ensures {u = tt}) _ c.attempt_here-reply.ensures.entry
+
+pub invariant_of-self-2 : goal.invariant_of-self-2
+invariant_of-self-2 c =
+    after_attempt c.self.inside.accounts c.attempt_here-reply.new.self c.self.inside.entries c.self.inside.faults c.self.inside.keeper.plan.faults
+    c.in_ok-entries.entries c.self.invariant (c.in_ok-entries.ensures {u = tt}) _ c.attempt_here-reply.ensures.entry
