@@ -170,7 +170,7 @@ text-is packets written old new last e f =
 
 -- the input ends after a packet
 pub ends-between : (bytes written : List ℕ) (l : Listing) (lines : List ℕ) → HasRead bytes written l → IsSteady l → length bytes ≤ longest_input → held_length l.frames ≡ 0
-    → lines ≡ l.lines ++ end_line l.count → IsListed bytes 0 (written ++ lines)
+    → lines ≡ l.lines ++ end_line l.count → IsListed bytes Done (written ++ lines)
 ends-between bytes written l lines h s short none e =
     let nothing : l.frames.held ≡ [] = empty l.frames.held (sym (held-part l.frames s.missing s.part) ∙ none) in
     record {
@@ -179,7 +179,7 @@ ends-between bytes written l lines h s short none e =
       last = end_line l.count;
       stream = subst (λ (b : List ℕ). IsPackets b h.packets Between) (sym (take_all longest_input bytes short))
           (given-ends 50331645 (λ _. Any) Any bytes h.packets l.frames Between h.given nothing);
-      ends = subst (λ (k : ℕ). IsLast bytes (length h.packets) Between 0 (end_line k)) (sym h.count_is) (between short);
+      ends = subst (λ (k : ℕ). IsLast bytes (length h.packets) Between Done (end_line k)) (sym h.count_is) (between short);
       text_is = text-is h.packets written l.lines lines (end_line l.count) h.lines_are e;
     }
 
