@@ -70,7 +70,12 @@ end 3\n";
 
 /// How much of it is printed where the first, the second or the third read or write fails, and the status of either; there is
 /// no fourth one.
-const BEFORE_EACH_CALL: &[(u64, usize, u8, u8)] = &[(1, 0, 4, 5), (2, 33, 4, 5), (3, 107, 4, 5), (4, 113, 0, 0)];
+const BEFORE_EACH_CALL: &[(u64, usize, u8, u8)] = &[
+    (1, 0, 4, 5),
+    (2, 33, 4, 5),
+    (3, 107, 4, 5),
+    (4, 113, 0, 0),
+];
 
 fn three_packets(alloc: Global) -> Result<Vec<u8>, AllocError> {
     let mut bytes = vec![in alloc; 0u8; 120_012]?;
