@@ -8,16 +8,18 @@ use Rattle.loginctl.specs.Printing.{Printed, Wrote, cut, whole}
 use Rattle.loginctl.specs.Tool.{Due}
 use Rattle.loginctl.specs.declared.replay.Outcome.{Outcome}
 use Rattle.lg_base.specs.declared.allocation.Memory.{Memory}
+use Rattle.loginctl.specs.declared.status.Status.{Status}
+use Rattle.loginctl.specs.declared.status.Status.TheVariants.{BadInput, OutputFault}
 
 -- what is due for an input that is no script
-pub due-refused : (input : List ℕ) (made : Result Outcome Memory) (line : ℕ) → IsDue input 3 (bad_line line)
-    → IfOk made (λ due. due.status ≡ 3) → IfOk made (λ due. due.text ≡ bad_line line) → IfOk made (λ due. IsDue input due.status due.text)
+pub due-refused : (input : List ℕ) (made : Result Outcome Memory) (line : ℕ) → IsDue input BadInput (bad_line line)
+    → IfOk made (λ due. due.status ≡ BadInput) → IfOk made (λ due. due.text ≡ bad_line line) → IfOk made (λ due. IsDue input due.status due.text)
 due-refused input (Ok due) line is status text =
-    subst (λ (s : ℕ). IsDue input s due.text) (sym status) (subst (λ (t : List ℕ). IsDue input 3 t) (sym text) is)
+    subst (λ (s : Status). IsDue input s due.text) (sym status) (subst (λ (t : List ℕ). IsDue input BadInput t) (sym text) is)
 due-refused input (Err want) line is status text = tt
 
 -- an input of which more than the limit was read is too long
-due-long : (held told : List ℕ) (status : ℕ) (text : List ℕ) → longest_script < length held → longest_script < length told → IsDue held status text → IsDue told status text
+due-long : (held told : List ℕ) (status : Status) (text : List ℕ) → longest_script < length held → longest_script < length told → IsDue held status text → IsDue told status text
 due-long held told _ _ h t (replayed script short spells legal transcripts) = absurd (omega arith)
 due-long held told _ _ h t (refused line short none bad) = absurd (omega arith)
 due-long held told _ _ h t (overlong long) = overlong t
@@ -28,7 +30,7 @@ within a b = cases (nat_lt b a) refl where
   cases true e = inr (ltb-true b a e)
   cases false e = inl (ltb-false b a e)
 
-pub due-told : (held : List ℕ) (before after : Option (List ℕ)) (status : ℕ) (text : List ℕ) → Held before after held
+pub due-told : (held : List ℕ) (before after : Option (List ℕ)) (status : Status) (text : List ℕ) → Held before after held
     → (length held ≤ 16777216 → IfSome after (λ left. left ≡ [])) → IsDue held status text → Due before status text
 due-told held None after status text h w due = (held, due)
 due-told held (Some told) after status text (left, now, all) w due =
@@ -41,13 +43,13 @@ due-told held (Some told) after status text (left, now, all) w due =
     (within (length held) 16777216)
 
 -- what a print leaves
-pub printed-whole : (before after : Option (List ℕ)) (rose : Type 0) (status : ℕ) (text : List ℕ) (answer : Result (Unit {0}) Failed) (u : Unit {0})
+pub printed-whole : (before after : Option (List ℕ)) (rose : Type 0) (status : Status) (text : List ℕ) (answer : Result (Unit {0}) Failed) (u : Unit {0})
     → answer ≡ Ok u → Adds before after answer text → Printed before after rose status text status
 printed-whole None after rose status text answer u e a = whole a
 printed-whole (Some before) after rose status text answer u e a = whole (subst (λ (r : Result (Unit {0}) Failed). Adds (Some before) after r text) e a)
 
-pub printed-cut : (before after : Option (List ℕ)) (rose : Type 0) (status : ℕ) (text : List ℕ) (answer : Result (Unit {0}) Failed) (f : Failed)
-    → answer ≡ Err f → rose → Adds before after answer text → Printed before after rose status text 5
+pub printed-cut : (before after : Option (List ℕ)) (rose : Type 0) (status : Status) (text : List ℕ) (answer : Result (Unit {0}) Failed) (f : Failed)
+    → answer ≡ Err f → rose → Adds before after answer text → Printed before after rose status text OutputFault
 printed-cut None after rose status text answer f e r a = cut r a
 printed-cut (Some before) after rose status text answer f e r a = cut r (subst (λ (o : Result (Unit {0}) Failed). Adds (Some before) after o text) e a)
 
@@ -57,11 +59,11 @@ wrote-nothing None = refl
 wrote-nothing (Some before) = ap (λ (w : List ℕ). Some w) (sym (append-nil before))
 
 -- a print of an equal text
-pub printed-as : (before after : Option (List ℕ)) (rose : Type 0) (status : ℕ) (text same : List ℕ) (result : ℕ) → text ≡ same
+pub printed-as : (before after : Option (List ℕ)) (rose : Type 0) (status : Status) (text same : List ℕ) (result : Status) → text ≡ same
     → Printed before after rose status text result → Printed before after rose status same result
 printed-as before after rose status text same result e p = subst (λ (t : List ℕ). Printed before after rose status t result) e p
 
 -- the same with an equal status
-pub printed-with : (before after : Option (List ℕ)) (rose : Type 0) (status due : ℕ) (text same : List ℕ) (result : ℕ) → status ≡ due → text ≡ same
+pub printed-with : (before after : Option (List ℕ)) (rose : Type 0) (status due : Status) (text same : List ℕ) (result : Status) → status ≡ due → text ≡ same
     → Printed before after rose status text result → Printed before after rose due same result
-printed-with before after rose status due text same result e f p = subst (λ (s : ℕ). Printed before after rose s same result) e (printed-as before after rose status text same result f p)
+printed-with before after rose status due text same result e f p = subst (λ (s : Status). Printed before after rose s same result) e (printed-as before after rose status text same result f p)

@@ -18,6 +18,7 @@ use Rattle.packet_frame.proofs.Streams.{faulty-stream, given-ends, given-nothing
 use Rattle.loginctl.specs.Frames.{IsFrontListed, IsFrontOf, IsLast, IsListed, IsPackets, bad_line, between, between_past, end_line, lines_from, longest_input, out_of_order, packet_line, packet_lines, too_large, unfinished, unfinished_past}
 use Rattle.loginctl.specs.Listing.{HasRead, HasStopped, IsSteady, Stops}
 use Rattle.loginctl.specs.declared.frames.Listing.{Listing}
+use Rattle.loginctl.specs.declared.status.Status.TheVariants.{BadInput, Done}
 
 -- the lines of one more packet
 pub lines_from-push : (n : ℕ) (ps : List Packet) (p : Packet) → lines_from n (ps ++ p ∷ []) ≡ lines_from n ps ++ packet_line (n + length ps) p
@@ -169,7 +170,7 @@ text-is packets written old new last e f =
 
 -- the input ends after a packet
 pub ends-between : (bytes written : List ℕ) (l : Listing) (lines : List ℕ) → HasRead bytes written l → IsSteady l → length bytes ≤ longest_input → held_length l.frames ≡ 0
-    → lines ≡ l.lines ++ end_line l.count → IsListed bytes 0 (written ++ lines)
+    → lines ≡ l.lines ++ end_line l.count → IsListed bytes Done (written ++ lines)
 ends-between bytes written l lines h s short none e =
     let nothing : l.frames.held ≡ [] = empty l.frames.held (sym (held-part l.frames s.missing s.part) ∙ none) in
     record {
@@ -178,13 +179,13 @@ ends-between bytes written l lines h s short none e =
       last = end_line l.count;
       stream = subst (λ (b : List ℕ). IsPackets b h.packets Between) (sym (take_all longest_input bytes short))
           (given-ends 50331645 (λ _. Any) Any bytes h.packets l.frames Between h.given nothing);
-      ends = subst (λ (k : ℕ). IsLast bytes (length h.packets) Between 0 (end_line k)) (sym h.count_is) (between short);
+      ends = subst (λ (k : ℕ). IsLast bytes (length h.packets) Between Done (end_line k)) (sym h.count_is) (between short);
       text_is = text-is h.packets written l.lines lines (end_line l.count) h.lines_are e;
     }
 
 -- the input ends within a packet
 pub ends-within : (bytes written : List ℕ) (l : Listing) (lines : List ℕ) (at : ℕ) → HasRead bytes written l → IsSteady l → length bytes ≤ longest_input → (held_length l.frames ≡ 0 → ⊥)
-    → at + held_length l.frames ≡ place_of l.frames → lines ≡ l.lines ++ bad_line at → IsListed bytes 3 (written ++ lines)
+    → at + held_length l.frames ≡ place_of l.frames → lines ≡ l.lines ++ bad_line at → IsListed bytes BadInput (written ++ lines)
 ends-within bytes written l lines at h s short some placed e =
     let some-held : l.frames.held ≡ [] → ⊥ = λ none. some (held-part l.frames s.missing s.part ∙ ap (λ (b : List ℕ). length b) none) in
     let at-is : at ≡ l.frames.start = omega (arith, placed, held-part l.frames s.missing s.part) in
@@ -194,7 +195,7 @@ ends-within bytes written l lines at h s short some placed e =
       last = bad_line at;
       stream = subst (λ (b : List ℕ). IsPackets b h.packets (Cut l.frames.start)) (sym (take_all longest_input bytes short))
           (given-ends 50331645 (λ _. Any) Any bytes h.packets l.frames (Cut l.frames.start) h.given (cut-at l.frames s.missing s.part h.reading some-held));
-      ends = subst (λ (k : ℕ). IsLast bytes (length h.packets) (Cut l.frames.start) 3 (bad_line k)) (sym at-is) (unfinished l.frames.start short);
+      ends = subst (λ (k : ℕ). IsLast bytes (length h.packets) (Cut l.frames.start) BadInput (bad_line k)) (sym at-is) (unfinished l.frames.start short);
       text_is = text-is h.packets written l.lines lines (bad_line at) h.lines_are e;
     }
 
@@ -203,16 +204,16 @@ front-is : (bytes rest : List ℕ) → length bytes ≡ longest_input → take l
 front-is bytes rest full = take-append-le longest_input bytes rest (omega (arith, full)) ∙ take_all longest_input bytes (omega (arith, full))
 
 last-past : (input : List ℕ) (count : ℕ) (v : Framing) (missing : ℕ) (e : front_of v ≡ Part missing) (reading : IsReading v) → longest_input < length input
-    → (ending : Ending) × IsEnding v.limit v.want v.start v.held ending × IsLast input count ending 3 (bad_line longest_input)
+    → (ending : Ending) × IsEnding v.limit v.want v.start v.held ending × IsLast input count ending BadInput (bad_line longest_input)
 last-past input count v missing e reading more =
-    ⊎_elim {C = (ending : Ending) × IsEnding v.limit v.want v.start v.held ending × IsLast input count ending 3 (bad_line longest_input)}
+    ⊎_elim {C = (ending : Ending) × IsEnding v.limit v.want v.start v.held ending × IsLast input count ending BadInput (bad_line longest_input)}
     (λ (none : v.held ≡ []). (Between, none, between_past more))
     (λ (some : v.held ≡ [] → ⊥). (Cut v.start, cut-at v missing e reading some, unfinished_past v.start more))
     (some-or-none v.held)
 
 -- the input goes on past the limit
 pub goes-past : (bytes rest written : List ℕ) (l : Listing) (lines : List ℕ) → HasRead bytes written l → IsSteady l → length bytes ≡ longest_input → 0 < length rest
-    → lines ≡ l.lines ++ bad_line longest_input → IsListed (bytes ++ rest) 3 (written ++ lines)
+    → lines ≡ l.lines ++ bad_line longest_input → IsListed (bytes ++ rest) BadInput (written ++ lines)
 goes-past bytes rest written l lines h s full some e =
     let more : longest_input < length (bytes ++ rest) = omega (arith, full, some, length-append bytes rest) in
     let last = last-past (bytes ++ rest) (length h.packets) l.frames s.missing s.part h.reading more in
@@ -233,7 +234,7 @@ take-front limit bytes rest short =
     ap (λ (k : ℕ). take k (bytes ++ rest)) n ∙ take-append-add bytes rest (limit - length bytes)
 
 fault-listed : (bytes rest written : List ℕ) (l : Listing) (fault : FrameFault) (last lines : List ℕ) → HasStopped bytes written fault l → length bytes ≤ longest_input
-    → ((input : List ℕ) (count : ℕ) → IsLast input count (Faulty fault) 3 last) → lines ≡ l.lines ++ last → IsListed (bytes ++ rest) 3 (written ++ lines)
+    → ((input : List ℕ) (count : ℕ) → IsLast input count (Faulty fault) BadInput last) → lines ≡ l.lines ++ last → IsListed (bytes ++ rest) BadInput (written ++ lines)
 fault-listed bytes rest written l fault last lines h short ends e = record {
   packets = h.packets;
   ending = Faulty fault;
@@ -246,11 +247,11 @@ fault-listed bytes rest written l fault last lines h short ends e = record {
 
 -- a fault stands in the input, whatever follows it
 pub ends-too_large : (bytes rest written : List ℕ) (l : Listing) (at : ℕ) (lines : List ℕ) → HasStopped bytes written (TooLarge at) l → length bytes ≤ longest_input
-    → lines ≡ l.lines ++ bad_line at → IsListed (bytes ++ rest) 3 (written ++ lines)
+    → lines ≡ l.lines ++ bad_line at → IsListed (bytes ++ rest) BadInput (written ++ lines)
 ends-too_large bytes rest written l at lines h short e = fault-listed bytes rest written l (TooLarge at) (bad_line at) lines h short (λ input count. too_large at) e
 
 pub ends-out_of_order : (bytes rest written : List ℕ) (l : Listing) (at want got : ℕ) (lines : List ℕ) → HasStopped bytes written (OutOfOrder at want got) l
-    → length bytes ≤ longest_input → lines ≡ l.lines ++ bad_line at → IsListed (bytes ++ rest) 3 (written ++ lines)
+    → length bytes ≤ longest_input → lines ≡ l.lines ++ bad_line at → IsListed (bytes ++ rest) BadInput (written ++ lines)
 ends-out_of_order bytes rest written l at want got lines h short e =
     fault-listed bytes rest written l (OutOfOrder at want got) (bad_line at) lines h short (λ input count. out_of_order at want got) e
 

@@ -9,6 +9,7 @@ use Rattle.loginctl.specs.Frames.{AnswersFrames, IsFrontListed, IsFrontOf, IsLis
 use Rattle.loginctl.specs.Input.{Held}
 use Rattle.loginctl.specs.Listing.{IsEnded, printed, without_memory}
 use Rattle.loginctl.specs.Printing.{Printed, Wrote, WrotePart, cut, whole}
+use Rattle.loginctl.specs.declared.status.Status.{Status}
 
 -- a count that rises later rises
 pub rose-later : (before middle after : ℕ) → before ≤ middle → Rose middle after → Rose before after
@@ -42,13 +43,13 @@ held-front None after held h = tt {0}
 held-front (Some all) after held (left, now, is) = (left, is)
 
 -- what holds of it whatever follows holds of all that was told
-pub held-listed : (before after : Option (List ℕ)) (held : List ℕ) (status : ℕ) (text : List ℕ) → Held before after held
+pub held-listed : (before after : Option (List ℕ)) (held : List ℕ) (status : Status) (text : List ℕ) → Held before after held
     → ((rest : List ℕ) → IsListed (held ++ rest) status text) → ListedOf before status text
 held-listed None after held status text h f = (held ++ [], f [])
 held-listed (Some all) after held status text (left, now, is) f = subst (λ (input : List ℕ). IsListed input status text) (sym is) (f left)
 
 -- at the end of the input all was held
-pub held-all : (before middle after : Option (List ℕ)) (held : List ℕ) (buffer : List ℕ) (status : ℕ) (text : List ℕ) → Held before middle held → Gives middle after (Ok 0) buffer
+pub held-all : (before middle after : Option (List ℕ)) (held : List ℕ) (buffer : List ℕ) (status : Status) (text : List ℕ) → Held before middle held → Gives middle after (Ok 0) buffer
     → IsListed held status text → ListedOf before status text
 held-all None middle after held buffer status text h g due = (held, due)
 held-all (Some all) None after held buffer status text (left, now, is) g due = absurd (cc)
@@ -91,13 +92,13 @@ wrote-part None after bytes f a = a
 wrote-part (Some now) after bytes f a = a
 
 -- a print after something was written
-pub printed-after : (before middle after : Option (List ℕ)) (rose rises : Type 0) (status : ℕ) (written text : List ℕ) (result : ℕ) → Wrote before middle written → (rose → rises)
+pub printed-after : (before middle after : Option (List ℕ)) (rose rises : Type 0) (status : Status) (written text : List ℕ) (result : Status) → Wrote before middle written → (rose → rises)
     → Printed middle after rose status text result → Printed before after rises status (written ++ text) result
 printed-after before middle after rose rises status written text _ w f (whole a) = whole (whole-after before middle after written text w a)
 printed-after before middle after rose rises status written text _ w f (cut r a) = cut (f r) (part-after before middle after written text w a)
 
 -- the input ended, after its front was printed
-pub ended-answers : (told tells ends before middle after : Option (List ℕ)) (bytes written buffer : List ℕ) (count : ℕ) (SourceRose rose rises : Type 0) (result : ℕ)
+pub ended-answers : (told tells ends before middle after : Option (List ℕ)) (bytes written buffer : List ℕ) (count : ℕ) (SourceRose rose rises : Type 0) (result : Status)
     → Held told tells bytes → Gives tells ends (Ok count) buffer → count ≡ 0 → Wrote before middle written → (rose → rises) → IsFrontListed told written
     → IsEnded bytes written middle after rose result → AnswersFrames told before after SourceRose rises result
 ended-answers told tells ends before middle after bytes written buffer count SourceRose rose rises _ held gives none wrote f listed (printed result status rest due p) =

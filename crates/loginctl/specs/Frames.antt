@@ -7,6 +7,8 @@ use Rattle.packet_frame.specs.declared.packets.Packet.{Packet}
 use Rattle.packet_frame.specs.declared.packets.Want.TheVariants.{Any}
 use Rattle.packet_frame.specs.declared.packets.FrameFault.TheVariants.{TooLarge, OutOfOrder}
 use Rattle.loginctl.specs.Printing.{Printed, Wrote, WrotePart}
+use Rattle.loginctl.specs.declared.status.Status.{Status}
+use Rattle.loginctl.specs.declared.status.Status.TheVariants.{BadInput, Done, InputFault, NoMemory, OutputFault}
 
 -- the most bytes of an input
 abbrev pub longest_input : ℕ
@@ -40,16 +42,16 @@ bad_line at = codes "bad packet at " ++ decimal at ++ 10 ∷ []
 
 -- The status and the last line for an input with so many packets before an ending: a fault is told at its
 -- place, an unfinished packet at its first byte, and an input past the limit at the limit.
-pub data IsLast (input : List ℕ) (count : ℕ) : Ending → ℕ → List ℕ → Type 0 where
-  between : length input ≤ longest_input → IsLast input count Between 0 (end_line count)
-  unfinished : (at : ℕ) → length input ≤ longest_input → IsLast input count (Cut at) 3 (bad_line at)
-  too_large : (at : ℕ) → IsLast input count (Faulty (TooLarge at)) 3 (bad_line at)
-  out_of_order : (at want got : ℕ) → IsLast input count (Faulty (OutOfOrder at want got)) 3 (bad_line at)
-  between_past : longest_input < length input → IsLast input count Between 3 (bad_line longest_input)
-  unfinished_past : (at : ℕ) → longest_input < length input → IsLast input count (Cut at) 3 (bad_line longest_input)
+pub data IsLast (input : List ℕ) (count : ℕ) : Ending → Status → List ℕ → Type 0 where
+  between : length input ≤ longest_input → IsLast input count Between Done (end_line count)
+  unfinished : (at : ℕ) → length input ≤ longest_input → IsLast input count (Cut at) BadInput (bad_line at)
+  too_large : (at : ℕ) → IsLast input count (Faulty (TooLarge at)) BadInput (bad_line at)
+  out_of_order : (at want got : ℕ) → IsLast input count (Faulty (OutOfOrder at want got)) BadInput (bad_line at)
+  between_past : longest_input < length input → IsLast input count Between BadInput (bad_line longest_input)
+  unfinished_past : (at : ℕ) → longest_input < length input → IsLast input count (Cut at) BadInput (bad_line longest_input)
 
 -- the status and the text that are due for an input
-pub record IsListed (input : List ℕ) (status : ℕ) (text : List ℕ) : Type 0 where
+pub record IsListed (input : List ℕ) (status : Status) (text : List ℕ) : Type 0 where
   pub packets : List Packet
   pub ending : Ending
   pub last : List ℕ
@@ -58,7 +60,7 @@ pub record IsListed (input : List ℕ) (status : ℕ) (text : List ℕ) : Type 0
   pub text_is : text ≡ packet_lines packets ++ last
 
 -- the same where the source tells its bytes; else some input is answered so
-abbrev pub ListedOf : Option (List ℕ) → ℕ → List ℕ → Type 0
+abbrev pub ListedOf : Option (List ℕ) → Status → List ℕ → Type 0
 ListedOf None status text = (input : List ℕ) × IsListed input status text
 ListedOf (Some input) status text = IsListed input status text
 
@@ -79,16 +81,16 @@ pub record IsFrontListed (told : Option (List ℕ)) (text : List ℕ) : Type 0 w
 
 -- What `frames` answers, by the bytes that the source told, what was written before and after, and whether the
 -- counts of faults rose.
-pub data AnswersFrames (told before after : Option (List ℕ)) (SourceRose SinkRose : Type 0) : ℕ → Type 0 where
+pub data AnswersFrames (told before after : Option (List ℕ)) (SourceRose SinkRose : Type 0) : Status → Type 0 where
   -- the input was read to its end, to a fault or past the limit
-  ran : (result status : ℕ) (text : List ℕ) → ListedOf told status text → Printed before after SinkRose status text result
+  ran : (result status : Status) (text : List ℕ) → ListedOf told status text → Printed before after SinkRose status text result
       → AnswersFrames told before after SourceRose SinkRose result
   -- the sink failed at the lines of packets
   sink_fault : (text : List ℕ) → IsFrontListed told text → SinkRose → WrotePart before after text
-      → AnswersFrames told before after SourceRose SinkRose 5
+      → AnswersFrames told before after SourceRose SinkRose OutputFault
   -- the source failed
   source_fault : (text : List ℕ) → IsFrontListed told text → SourceRose → Wrote before after text
-      → AnswersFrames told before after SourceRose SinkRose 4
+      → AnswersFrames told before after SourceRose SinkRose InputFault
   -- there was no memory
   no_memory : (text : List ℕ) → IsFrontListed told text → Wrote before after text
-      → AnswersFrames told before after SourceRose SinkRose 6
+      → AnswersFrames told before after SourceRose SinkRose NoMemory

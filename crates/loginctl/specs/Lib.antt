@@ -6,4 +6,5 @@ pub mod Logins
 pub mod Outsides
 pub mod Printing
 pub mod Replayed
+pub mod Statuses
 pub mod Tool

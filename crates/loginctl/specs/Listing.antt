@@ -10,6 +10,8 @@ use Rattle.packet_frame.specs.declared.packets.FrameFault.TheVariants.{TooLarge,
 use Rattle.loginctl.specs.Frames.{IsListed, IsPackets, packet_lines}
 use Rattle.loginctl.specs.Printing.{Printed}
 use Rattle.loginctl.specs.declared.frames.Listing.{Listing}
+use Rattle.loginctl.specs.declared.status.Status.{Status}
+use Rattle.loginctl.specs.declared.status.Status.TheVariants.{NoMemory}
 
 -- no packet waits and there was no fault, and there are no more packets than bytes
 pub record IsSteady (l : Listing) : Type 0 where
@@ -40,7 +42,7 @@ Stops bytes written (TooLarge at) l = HasStopped bytes written (TooLarge at) l
 Stops bytes written (OutOfOrder at want got) l = HasStopped bytes written (OutOfOrder at want got) l
 
 -- the input ended: the rest of its text is printed, or there was no memory
-pub data IsEnded (bytes written : List ℕ) (before after : Option (List ℕ)) (SinkRose : Type 0) : ℕ → Type 0 where
-  printed : (result status : ℕ) (rest : List ℕ) → IsListed bytes status (written ++ rest) → Printed before after SinkRose status rest result
+pub data IsEnded (bytes written : List ℕ) (before after : Option (List ℕ)) (SinkRose : Type 0) : Status → Type 0 where
+  printed : (result status : Status) (rest : List ℕ) → IsListed bytes status (written ++ rest) → Printed before after SinkRose status rest result
       → IsEnded bytes written before after SinkRose result
-  without_memory : after ≡ before → IsEnded bytes written before after SinkRose 6
+  without_memory : after ≡ before → IsEnded bytes written before after SinkRose NoMemory

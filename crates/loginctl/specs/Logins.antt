@@ -13,6 +13,8 @@ use Rattle.client_wire.specs.Words.{end_words}
 use Rattle.loginctl.specs.LoginWords.{Choice}
 use Rattle.loginctl.specs.Outsides.{LinkState}
 use Rattle.loginctl.specs.Printing.{Printed, Wrote}
+use Rattle.loginctl.specs.declared.status.Status.{Status}
+use Rattle.loginctl.specs.declared.status.Status.TheVariants.{BadAnswer, Done, InputFault, LoginRefused, NoMemory, NotSent}
 
 -- the path of the server's socket
 abbrev pub path_of : Choice → List ℕ
@@ -36,15 +38,15 @@ claim_of c local = record { user = unwrap_or c.user []; secrets = secrets_of c; 
 abbrev pub login_line : LoginEnd → List ℕ
 login_line end = end_words end ++ 10 ∷ []
 
-abbrev pub login_status : LoginEnd → ℕ
-login_status Opened = 0
-login_status (Refused number) = 1
-login_status (Malformed at) = 7
-login_status (Framing fault) = 7
-login_status (WontSend reason) = 8
-login_status PeerClosed = 7
-login_status LinkFault = 4
-login_status Memory = 6
+abbrev pub login_status : LoginEnd → Status
+login_status Opened = Done
+login_status (Refused number) = LoginRefused
+login_status (Malformed at) = BadAnswer
+login_status (Framing fault) = BadAnswer
+login_status (WontSend reason) = NotSent
+login_status PeerClosed = BadAnswer
+login_status LinkFault = InputFault
+login_status Memory = NoMemory
 
 -- how a login over a link ended, by the link before and after it
 pub data LogsIn (choice : Choice) (local : Bool) (before after : LinkState) : LoginEnd → Type 0 where
@@ -62,7 +64,7 @@ IsTold _ = Unit {0}
 
 -- What `login` answers, by the link before and after, what was written before and after, and whether the sink's count of
 -- faults rose.
-pub data AnswersLogin (choice : Choice) (local : Bool) (before after : LinkState) (out out' : Option (List ℕ)) (SinkRose : Type 0) : ℕ → Type 0 where
-  told : (end : LoginEnd) (result : ℕ) → LogsIn choice local before after end → IsTold end
+pub data AnswersLogin (choice : Choice) (local : Bool) (before after : LinkState) (out out' : Option (List ℕ)) (SinkRose : Type 0) : Status → Type 0 where
+  told : (end : LoginEnd) (result : Status) → LogsIn choice local before after end → IsTold end
       → Printed out out' SinkRose (login_status end) (login_line end) result → AnswersLogin choice local before after out out' SinkRose result
-  no_memory : (end : LoginEnd) → LogsIn choice local before after end → Wrote out out' [] → AnswersLogin choice local before after out out' SinkRose 6
+  no_memory : (end : LoginEnd) → LogsIn choice local before after end → Wrote out out' [] → AnswersLogin choice local before after out out' SinkRose NoMemory

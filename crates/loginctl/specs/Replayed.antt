@@ -6,6 +6,8 @@ use Rattle.session_world.specs.Standing.{replay_text}
 use Rattle.session_world.specs.Events.{all_doings, all_printed, lines_among, lines_for}
 use Rattle.session_world.specs.Replays.{Replay, after_events, new_replay}
 use Rattle.session_world.specs.Transcripts.{IsHistory, IsTranscript, peer_at, session_bytes}
+use Rattle.loginctl.specs.declared.status.Status.{Status}
+use Rattle.loginctl.specs.declared.status.Status.TheVariants.{BadInput, Done}
 
 -- the most bytes of a script
 abbrev pub longest_script : ℕ
@@ -38,11 +40,10 @@ AreTranscripts script =
 abbrev pub script_text : Contents → List ℕ
 script_text script = replay_text script.setup.accounts script.setup.settings script.events
 
--- The status and the text that are due for an input: a script gives the lines of its events and 0, any other input one
--- line and 3.
-pub data IsDue (input : List ℕ) : ℕ → List ℕ → Type 0 where
+-- The status and the text that are due for an input: a script gives the lines of its events, any other input one line.
+pub data IsDue (input : List ℕ) : Status → List ℕ → Type 0 where
   replayed : (script : Contents) → length input ≤ longest_script → Spells input script → IsLegalRun script → AreTranscripts script
-      → IsDue input 0 (script_text script)
+      → IsDue input Done (script_text script)
   refused : (line : ℕ) → length input ≤ longest_script → ((script : Contents) → Spells input script → ⊥) → IsBadLine input line
-      → IsDue input 3 (bad_line line)
-  overlong : longest_script < length input → IsDue input 3 (bad_line 0)
+      → IsDue input BadInput (bad_line line)
+  overlong : longest_script < length input → IsDue input BadInput (bad_line 0)

@@ -8,6 +8,8 @@ use Rattle.loginctl.specs.Logins.{AnswersLogin}
 use Rattle.loginctl.specs.Outsides.{LinkState, SourceState}
 use Rattle.loginctl.specs.Printing.{Printed, Wrote}
 use Rattle.loginctl.specs.Replayed.{IsDue}
+use Rattle.loginctl.specs.declared.status.Status.{Status}
+use Rattle.loginctl.specs.declared.status.Status.TheVariants.{InputFault, NoMemory, Usage}
 
 -- the words are the one word `replay`
 abbrev pub is_replay_words : List (List ℕ) → Bool
@@ -24,36 +26,36 @@ unfoldable pub usage_text : List ℕ
 usage_text = codes "usage: loginctl replay [--generate N] | login --socket PATH --user NAME [--password WORD] [--factor2 WORD] [--factor3 WORD] [--clear] [--expired] | frames" ++ 10 ∷ []
 
 -- the same where the source tells its bytes; else some input is answered so
-abbrev pub Due : Option (List ℕ) → ℕ → List ℕ → Type 0
+abbrev pub Due : Option (List ℕ) → Status → List ℕ → Type 0
 Due None status text = (input : List ℕ) × IsDue input status text
 Due (Some input) status text = IsDue input status text
 
 -- What words answer that are neither `replay` nor `frames`, by the link before and after, what was written before and
 -- after, and whether the sink's count of faults rose.
-pub data AnswersOther (words : List (List ℕ)) (local : Bool) (link link' : LinkState) (before after : Option (List ℕ)) (SinkRose : Type 0) : ℕ → Type 0 where
+pub data AnswersOther (words : List (List ℕ)) (local : Bool) (link link' : LinkState) (before after : Option (List ℕ)) (SinkRose : Type 0) : Status → Type 0 where
   -- they are those of a login
-  login : (choice : Choice) (result : ℕ) → Chooses words choice → AnswersLogin choice local link link' before after SinkRose result
+  login : (choice : Choice) (result : Status) → Chooses words choice → AnswersLogin choice local link link' before after SinkRose result
       → AnswersOther words local link link' before after SinkRose result
   -- they are of no form
-  usage : (result : ℕ) → ((choice : Choice) → Chooses words choice → ⊥) → link' ≡ link → Printed before after SinkRose 2 usage_text result
+  usage : (result : Status) → ((choice : Choice) → Chooses words choice → ⊥) → link' ≡ link → Printed before after SinkRose Usage usage_text result
       → AnswersOther words local link link' before after SinkRose result
   -- there was no memory to read them
-  unread : link' ≡ link → Wrote before after [] → AnswersOther words local link link' before after SinkRose 6
+  unread : link' ≡ link → Wrote before after [] → AnswersOther words local link link' before after SinkRose NoMemory
 
 -- What a run answers, by its words, the source and the link before and after, what was written before and after, and
 -- whether the sink's count of faults rose. Only a login touches the link, and it leaves the source.
-pub data Answers (words : List (List ℕ)) (source source' : SourceState) (local : Bool) (link link' : LinkState) (before after : Option (List ℕ)) (SinkRose : Type 0) : ℕ → Type 0 where
+pub data Answers (words : List (List ℕ)) (source source' : SourceState) (local : Bool) (link link' : LinkState) (before after : Option (List ℕ)) (SinkRose : Type 0) : Status → Type 0 where
   -- the words are neither `replay` nor `frames`
-  other : (result : ℕ) → is_replay_words words ≡ false → is_frames_words words ≡ false → source' ≡ source → AnswersOther words local link link' before after SinkRose result
+  other : (result : Status) → is_replay_words words ≡ false → is_frames_words words ≡ false → source' ≡ source → AnswersOther words local link link' before after SinkRose result
       → Answers words source source' local link link' before after SinkRose result
   -- packets are listed
-  frames : (result : ℕ) → is_frames_words words ≡ true → link' ≡ link → AnswersFrames source.left before after (Rose source.faults source'.faults) SinkRose result
+  frames : (result : Status) → is_frames_words words ≡ true → link' ≡ link → AnswersFrames source.left before after (Rose source.faults source'.faults) SinkRose result
       → Answers words source source' local link link' before after SinkRose result
   -- the script was read to its end, or past the limit
-  ran : (result status : ℕ) (text : List ℕ) → is_replay_words words ≡ true → link' ≡ link → Due source.left status text
+  ran : (result status : Status) (text : List ℕ) → is_replay_words words ≡ true → link' ≡ link → Due source.left status text
       → Printed before after SinkRose status text result → Answers words source source' local link link' before after SinkRose result
   -- the source failed
   source_fault : is_replay_words words ≡ true → link' ≡ link → Rose source.faults source'.faults → Wrote before after []
-      → Answers words source source' local link link' before after SinkRose 4
+      → Answers words source source' local link link' before after SinkRose InputFault
   -- there was no memory
-  no_memory : is_replay_words words ≡ true → link' ≡ link → Wrote before after [] → Answers words source source' local link link' before after SinkRose 6
+  no_memory : is_replay_words words ≡ true → link' ≡ link → Wrote before after [] → Answers words source source' local link link' before after SinkRose NoMemory

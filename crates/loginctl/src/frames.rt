@@ -9,6 +9,7 @@ ghost use Rattle.packet_frame.specs.Framing.{place_of};
 ghost use Rattle.std.specs.Prelude.{◌≡◌, ℕ, ◌+◌, ◌<◌, ◌≤◌, ◌++◌, [], List, Option, length, IfErr, IfOk, OnOk, true, false};
 
 use crate::printing::{add_number, print};
+use crate::status::Status;
 use lg_base::{Memory, Out};
 use lg_outside::{Sink, Source};
 use packet_frame::{FrameFault, Frames, Packet, Want};
@@ -120,7 +121,7 @@ impl Listing {
             IfOk result (λ bad. bad ≡ false → IsSteady self.new × HasRead (bytes ++ piece.now) written self.new) }
         ensures within { IfOk result (λ bad. bad ≡ false → place_of self.old.frames + length piece.now ≤ 1099511627776) }
         ensures bad { (bytes written rest : List ℕ) → HasRead bytes written self.old →
-            IfOk result (λ bad. bad ≡ true → IsListed ((bytes ++ piece.now) ++ rest) 3 (written ++ self.new.lines)) }
+            IfOk result (λ bad. bad ≡ true → IsListed ((bytes ++ piece.now) ++ rest) Status.BadInput (written ++ self.new.lines)) }
     {
         let room = LONGEST_INPUT - self.frames.place();
         let (within, past) = split_within(piece, room);
@@ -151,7 +152,7 @@ impl Listing {
     }
 
     /// Adds the last line where the input ends here, and answers the status that is due.
-    fn add_ending(&mut self) -> Result<u8, Memory>
+    fn add_ending(&mut self) -> Result<Status, Memory>
         requires steady { IsSteady self.old }
         ensures { (bytes written : List ℕ) → HasRead bytes written self.old → length bytes ≤ 1099511627776 →
             IfOk result (λ status. IsListed bytes status (written ++ self.new.lines)) }
@@ -159,10 +160,10 @@ impl Listing {
         let held = self.frames.held();
         if held == 0 {
             add_end(&mut self.lines, self.count)?;
-            return Ok(0);
+            return Ok(Status::Done);
         }
         add_bad(&mut self.lines, self.frames.place() - held)?;
-        Ok(3)
+        Ok(Status::BadInput)
     }
 }
 
@@ -179,7 +180,7 @@ fn split_within(piece: &[u8], room: u64) -> (&[u8], &[u8])
 }
 
 /// Prints the last line where the input ends here.
-fn print_ending<W: Sink>(listing: &mut Listing, out: &mut W) -> u8
+fn print_ending<W: Sink>(listing: &mut Listing, out: &mut W) -> Status
     requires steady { IsSteady listing.old }
     ensures ends { (bytes written : List ℕ) → HasRead bytes written listing.old → length bytes ≤ 1099511627776 →
         IsEnded bytes written (W.written out.old) (W.written out.new) (Rose (W.fault_count out.old) (W.fault_count out.new)) result }
@@ -187,15 +188,14 @@ fn print_ending<W: Sink>(listing: &mut Listing, out: &mut W) -> u8
 {
     let status = match listing.add_ending() {
         Ok(status) => status,
-        Err(Memory) => return 6,
+        Err(Memory) => return Status::NoMemory,
     };
     print(out, listing.lines.as_slice(), status)
 }
 
 /// Prints a line for each packet of `input`, and a last line that says how it ended, and answers the status
-/// that is due: 0 after a packet, 3 at a fault, within a packet or past the limit. A source that fails gives
-/// 4, a sink that fails 5, and want of memory 6.
-pub fn print_frames<S: Source, W: Sink>(alloc: Global, input: &mut S, out: &mut W) -> u8
+/// that is due: `Done` after a packet, `BadInput` at a fault, within a packet or past the limit.
+pub fn print_frames<S: Source, W: Sink>(alloc: Global, input: &mut S, out: &mut W) -> Status
     ensures answer { AnswersFrames (S.left input.old) (W.written out.old) (W.written out.new)
         (Rose (S.fault_count input.old) (S.fault_count input.new)) (Rose (W.fault_count out.old) (W.fault_count out.new)) result }
     ensures input { S.fault_count input.old ≤ S.fault_count input.new }
@@ -206,19 +206,19 @@ pub fn print_frames<S: Source, W: Sink>(alloc: Global, input: &mut S, out: &mut 
     'pieces: loop {
         let count = match input.read(&mut piece) {
             Ok(count) => count,
-            Err(_) => return 4,
+            Err(_) => return Status::InputFault,
         };
         if count == 0 {
             return print_ending(&mut listing, out);
         }
         match listing.add_piece(&piece[..count]) {
-            Ok(true) => return print(out, listing.lines.as_slice(), 3),
+            Ok(true) => return print(out, listing.lines.as_slice(), Status::BadInput),
             Ok(false) => {}
-            Err(Memory) => return 6,
+            Err(Memory) => return Status::NoMemory,
         }
         match out.write_all(listing.lines.as_slice()) {
             Ok(()) => {}
-            Err(_) => return 5,
+            Err(_) => return Status::OutputFault,
         }
         listing.lines.truncate(0);
     }

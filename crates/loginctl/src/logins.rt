@@ -9,6 +9,7 @@ ghost use Rattle.std.specs.Prelude.{◌≡◌, ◌≤◌, ◌++◌, [], ◌↔�
 
 use crate::login_words::Chosen;
 use crate::printing::print;
+use crate::status::Status;
 use client_wire::add_words;
 use lg_base::{Bytes, Memory, Out};
 use lg_outside::{Dial, Sink};
@@ -121,18 +122,18 @@ fn line_of(alloc: Global, end: LoginEnd) -> Result<Out, Memory>
 }
 
 /// The status that goes with a result.
-fn status_of(end: LoginEnd) -> u8
+fn status_of(end: LoginEnd) -> Status
     ensures { result ≡ login_status end }
 {
     match end {
-        LoginEnd::Opened => 0,
-        LoginEnd::Refused { number: _ } => 1,
-        LoginEnd::LinkFault => 4,
-        LoginEnd::Memory => 6,
-        LoginEnd::Malformed { at: _ } => 7,
-        LoginEnd::Framing(_) => 7,
-        LoginEnd::PeerClosed => 7,
-        LoginEnd::WontSend(_) => 8,
+        LoginEnd::Opened => Status::Done,
+        LoginEnd::Refused { number: _ } => Status::LoginRefused,
+        LoginEnd::LinkFault => Status::InputFault,
+        LoginEnd::Memory => Status::NoMemory,
+        LoginEnd::Malformed { at: _ } => Status::BadAnswer,
+        LoginEnd::Framing(_) => Status::BadAnswer,
+        LoginEnd::PeerClosed => Status::BadAnswer,
+        LoginEnd::WontSend(_) => Status::NotSent,
     }
 }
 
@@ -143,13 +144,13 @@ fn is_told(end: LoginEnd) -> bool
     !matches!(end, LoginEnd::Memory)
 }
 
-/// Logs in, prints the result's words, and answers its status. A sink that fails gives 5, and want of memory 6.
+/// Logs in, prints the result's words, and answers its status.
 pub fn print_login<W: Sink, L: Dial>(
     alloc: Global,
     chosen: &Chosen,
     out: &mut W,
     link: &mut L,
-) -> u8
+) -> Status
     requires open { L.finished link.old ≡ false }
     requires fit { IsFit (choice_of chosen.now) }
     ensures answer { AnswersLogin (choice_of chosen.now) (L.local link.old) (record {
@@ -168,10 +169,10 @@ pub fn print_login<W: Sink, L: Dial>(
 {
     let end = log_in(alloc, chosen, link);
     if !is_told(end) {
-        return 6;
+        return Status::NoMemory;
     }
     match line_of(alloc, end) {
         Ok(text) => print(out, text.as_slice(), status_of(end)),
-        Err(Memory) => 6,
+        Err(Memory) => Status::NoMemory,
     }
 }

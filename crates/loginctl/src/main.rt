@@ -14,9 +14,11 @@ mod login_words;
 mod logins;
 mod printing;
 mod replay;
+mod status;
 mod tool;
 
 use lg_outside::{StdSink, StdSource, UnixLink};
+use status::Status;
 use std::process::ExitCode;
 use std::{env, io};
 
@@ -33,7 +35,7 @@ fn read_words(rt: &HostRuntime) -> io::Result<Vec<String>> {
 fn main(rt: HostRuntime) -> ExitCode {
     // The words are read into memory, so they can't be had only where memory is wanting.
     let Ok(words) = read_words(&rt) else {
-        return ExitCode::from(6);
+        return ExitCode::from(Status::NoMemory.code());
     };
     let mut input = StdSource::new(rt.stdin());
     let mut out = StdSink::new(rt.stdout());
@@ -45,10 +47,8 @@ fn main(rt: HostRuntime) -> ExitCode {
         &mut out,
         &mut link,
     );
-    ExitCode::from(status)
+    ExitCode::from(status.code())
 }
 
-#[cfg(test)]
-mod login_tests;
 #[cfg(test)]
 mod tests;

@@ -4,6 +4,7 @@ ghost use Rattle.lg_outside.specs.Faults.{Rose};
 ghost use Rattle.loginctl.specs.Printing.{Printed};
 ghost use Rattle.std.specs.Prelude.{◌≡◌, ◌≤◌, ◌++◌, OnOk, decimal};
 
+use crate::status::Status;
 use itoa::Buffer;
 use lg_base::{Memory, Out};
 use lg_outside::Sink;
@@ -16,13 +17,13 @@ pub fn add_number(lines: &mut Out, number: u64) -> Result<(), Memory>
     lines.bytes(digits.format(number).as_bytes())
 }
 
-/// Prints a text, and answers the status that is due, or 5 where the sink fails.
-pub fn print<W: Sink>(out: &mut W, text: &[u8], status: u8) -> u8
+/// Prints a text, and answers the status that is due, or `OutputFault` where the sink fails.
+pub fn print<W: Sink>(out: &mut W, text: &[u8], status: Status) -> Status
     ensures printed { Printed (W.written out.old) (W.written out.new) (Rose (W.fault_count out.old) (W.fault_count out.new)) status text.now result }
     ensures rising { W.fault_count out.old ≤ W.fault_count out.new }
 {
     match out.write_all(text) {
         Ok(()) => status,
-        Err(_) => 5,
+        Err(_) => Status::OutputFault,
     }
 }

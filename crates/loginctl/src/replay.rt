@@ -5,6 +5,7 @@ ghost use Rattle.loginctl.specs.Replayed.{IsDue, script_text};
 ghost use Rattle.std.specs.Prelude.{◌≡◌, IfOk};
 
 use crate::printing::add_number;
+use crate::status::Status;
 use lg_base::{Memory, Out};
 use script_text::{Script, ScriptFault};
 use session_world::World;
@@ -17,7 +18,7 @@ pub const LONGEST_SCRIPT: usize = 16_777_216;
 /// What is due for an input: a status, and a text to print.
 #[derive(Drop)]
 pub struct Outcome {
-    pub status: u8,
+    pub status: Status,
     pub text: Out,
 }
 
@@ -48,11 +49,11 @@ fn bad_line(alloc: Global, number: u64) -> Result<Out, Memory>
 
 /// What is due for an input that is no script.
 fn refused(alloc: Global, line: u64) -> Result<Outcome, Memory>
-    ensures status { IfOk result (λ due. due.status ≡ 3) }
+    ensures status { IfOk result (λ due. due.status ≡ Status.BadInput) }
     ensures line { IfOk result (λ due. due.text ≡ text.bad_line line) }
 {
     Ok(Outcome {
-        status: 3,
+        status: Status::BadInput,
         text: bad_line(alloc, line)?,
     })
 }
@@ -70,7 +71,7 @@ pub fn due_for(alloc: Global, input: &[u8]) -> Result<Outcome, Memory>
     sessions_are_transcripts();
     match Script::read(alloc, input) {
         Ok(script) => Ok(Outcome {
-            status: 0,
+            status: Status::Done,
             text: replayed(alloc, &script)?,
         }),
         Err(ScriptFault::BadLine { line }) => refused(alloc, line),

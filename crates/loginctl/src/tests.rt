@@ -1,5 +1,5 @@
-//! Runs of the command line over streams in memory that fail at some call: what is printed, and the status. What is
-//! printed where nothing fails, and the usage, are shown by the runs of tests/replay.
+//! Runs over streams and a link in memory whose calls fail in turn: the status, and what is printed before. Runs in which
+//! nothing fails are those of tests/replay and tests/logins, on the built program.
 
 use crate::tool::run_tool;
 use lg_base::{Bytes, Items, Memory};
@@ -8,23 +8,59 @@ use std::alloc::{AllocError, Global};
 use std::process::Abort;
 use std::test::Fail;
 
-/// A script of a client that knows the password.
-const SCRIPT: &[u8] = b"account 6e6174 70617373776f7264\n\
-open 1\n\
-bytes 1 4f0000010082080000000001ff00000000000000000000000000000000000000000000006e61740014b9a6964d049b4f3f0f2778bd5819001f57a42dd26d7973716c5f6e61746976655f70617373776f726400\n\
-run 1\n\
-end\n";
-
-/// What the server of that script does.
-const PRINTED: &[u8] =
-    b"send 1 0 0a382e302e302d6c6f67696e000100000030303030303030300008a2ff0200781015000000000000000000003030303030303030303030310063616368696e675f736861325f70617373776f726400\n\
-entry 1 observe 6e6174\n\
-entry 2 attempt 6e6174 opened\n\
-send 1 2 00000002000000\n\
-end 2\n";
-
 const USAGE: &[u8] =
     b"usage: loginctl replay [--generate N] | login --socket PATH --user NAME [--password WORD] [--factor2 WORD] [--factor3 WORD] [--clear] [--expired] | frames\n";
+
+/// A server that greets, asks for the password and lets the client in.
+const SENT: &[u8] =
+    b"\x4f\x00\x00\x00\x0a8.0.0-login\x00\x01\x00\x00\x0000000000\x00\x08\xa2\xff\x02\x00\x78\x10\x15\x00\x00\x00\x00\x00\x00\x00\x00\x00\x00000000000001\x00caching_sha2_password\x00\x02\x00\x00\x02\x01\x04\x07\x00\x00\x04\x00\x00\x00\x02\x00\x00\x00";
+
+const NAT: &[&str] = &[
+    "login",
+    "--socket",
+    "s",
+    "--user",
+    "nat",
+    "--password",
+    "sesame",
+];
+
+/// A run whose read, write and call of the link of these numbers fail, where no call has the number 0.
+type Failing = [u64; 3];
+
+/// Words, input, the calls that fail, the room of the output, the status, and what is printed.
+type Trial = (
+    &'static [&'static str],
+    &'static [u8],
+    Failing,
+    usize,
+    u8,
+    &'static [u8],
+);
+
+const TRIALS: &[Trial] = &[
+    // A script is read in two reads, the second of which finds the end.
+    (&["replay"], b"end\n", [1, 0, 0], 9, 4, b""),
+    (&["replay"], b"end\n", [2, 0, 0], 9, 4, b""),
+    (&["replay"], b"end\n", [3, 2, 1], 9, 0, b"end 0\n"),
+    (&["replay"], b"end\n", [0, 1, 0], 9, 5, b""),
+    (&["replay"], b"end\n", [0, 0, 0], 5, 5, b""),
+    (&[], b"", [0, 1, 0], 9, 5, b""),
+    (&[], b"", [0, 0, 0], 9, 5, b""),
+    (&[], b"", [1, 2, 1], 255, 2, USAGE),
+    // The link is called nine times: it is dialled, read and written.
+    (NAT, b"", [0, 0, 1], 99, 4, b"linkfault\n"),
+    (NAT, b"", [0, 0, 2], 99, 4, b"linkfault\n"),
+    (NAT, b"", [0, 0, 3], 99, 4, b"linkfault\n"),
+    (NAT, b"", [0, 0, 4], 99, 4, b"linkfault\n"),
+    (NAT, b"", [0, 0, 5], 99, 4, b"linkfault\n"),
+    (NAT, b"", [0, 0, 6], 99, 4, b"linkfault\n"),
+    (NAT, b"", [0, 0, 7], 99, 4, b"linkfault\n"),
+    (NAT, b"", [0, 0, 8], 99, 4, b"linkfault\n"),
+    (NAT, b"", [0, 0, 9], 99, 4, b"linkfault\n"),
+    (NAT, b"", [1, 2, 10], 99, 0, b"opened\n"),
+    (NAT, b"", [0, 1, 0], 99, 5, b""),
+];
 
 /// What `frames` prints of three packets of 40,000 bytes, which are read in two pieces.
 const LISTED: &[u8] = b"packet 1 at 0 seq 0 length 40000\n\
@@ -32,17 +68,13 @@ packet 2 at 40004 seq 7 length 40000\n\
 packet 3 at 80008 seq 9 length 40000\n\
 end 3\n";
 
-/// What stands before the first, the second and the third read and write of it; there is no fourth one.
-const BEFORE_EACH_CALL: [(u64, &[u8]); 4] = [
-    (1, b""),
-    (2, b"packet 1 at 0 seq 0 length 40000\n"),
-    (
-        3,
-        b"packet 1 at 0 seq 0 length 40000\n\
-packet 2 at 40004 seq 7 length 40000\n\
-packet 3 at 80008 seq 9 length 40000\n",
-    ),
-    (4, LISTED),
+/// How much of it is printed where the first, the second or the third read or write fails, and the status of either; there is
+/// no fourth one.
+const BEFORE_EACH_CALL: &[(u64, usize, u8, u8)] = &[
+    (1, 0, 4, 5),
+    (2, 33, 4, 5),
+    (3, 107, 4, 5),
+    (4, 113, 0, 0),
 ];
 
 fn three_packets(alloc: Global) -> Result<Vec<u8>, AllocError> {
@@ -58,38 +90,12 @@ fn three_packets(alloc: Global) -> Result<Vec<u8>, AllocError> {
     Ok(bytes)
 }
 
-/// Room for all that a run prints.
-const ROOM: usize = 4096;
-
-/// What a run answered and printed.
-#[derive(Drop)]
-struct Ran {
-    status: u8,
-    printed: Bytes,
-}
-
-/// Runs with one word or none on an input, whose read of this number fails, and a sink with so much room, whose write
-/// of this number fails. No call has the number 0.
-fn run(
-    alloc: Global,
-    word: &str,
-    input: &[u8],
-    read: u64,
-    room: usize,
-    write: u64,
-) -> Result<Ran, Memory> {
-    let mut words = Vec::new(alloc);
-    if !word.is_empty() {
-        words.push(String::from_str(alloc, word)?)?;
+fn strings(alloc: Global, words: &[&str]) -> Result<Vec<String>, Memory> {
+    let mut held = Vec::new(alloc);
+    for word in words {
+        held.push(String::from_str(alloc, word)?)?;
     }
-    let mut input = MemorySource::new(Bytes::copy(alloc, input)?, one(alloc, read)?);
-    let mut out = MemorySink::new(alloc, room, one(alloc, write)?)?;
-    let mut link = MemoryLink::new(alloc, Bytes::copy(alloc, &[])?, 0, true, one(alloc, 0)?)?;
-    let status = run_tool(alloc, words.as_slice(), &mut input, &mut out, &mut link);
-    Ok(Ran {
-        status,
-        printed: Bytes::copy(alloc, out.written())?,
-    })
+    Ok(held)
 }
 
 /// The number of the one call that fails.
@@ -97,9 +103,38 @@ fn one(alloc: Global, call: u64) -> Result<Items<u64>, Memory> {
     Ok(Items::from_vec(Vec::from_slice(alloc, &[call])?))
 }
 
-fn check(rt: &impl Abort, ran: &Ran, status: u8, printed: &[u8]) {
-    assert_eq!(rt; ran.status, status);
-    assert_eq!(rt; ran.printed.as_slice(), printed);
+/// Runs over streams in memory and a link to a local server: the status, and what was printed.
+fn run(
+    alloc: Global,
+    words: &[&str],
+    input: &[u8],
+    failing: Failing,
+    room: usize,
+) -> Result<(u8, Bytes), Memory> {
+    let [read, write, call] = failing;
+    let words = strings(alloc, words)?;
+    let mut input = MemorySource::new(Bytes::copy(alloc, input)?, one(alloc, read)?);
+    let mut out = MemorySink::new(alloc, room, one(alloc, write)?)?;
+    let mut link = MemoryLink::new(
+        alloc,
+        Bytes::copy(alloc, SENT)?,
+        4096,
+        true,
+        one(alloc, call)?,
+    )?;
+    let status = run_tool(alloc, words.as_slice(), &mut input, &mut out, &mut link);
+    Ok((status.code(), Bytes::copy(alloc, out.written())?))
+}
+
+#[test]
+fn a_call_that_fails_ends_the_run(rt: HostRuntime) -> Result<(), Fail> {
+    let alloc = rt.alloc();
+    for (words, input, failing, room, status, printed) in TRIALS {
+        let (ended, text) = run(alloc, words, input, *failing, *room)?;
+        assert_eq!(rt; ended, *status);
+        assert_eq!(rt; text.as_slice(), *printed);
+    }
+    Ok(())
 }
 
 /// Where the input fails, the packets before are listed; where the output does, the lines before are there.
@@ -107,41 +142,13 @@ fn check(rt: &impl Abort, ran: &Ran, status: u8, printed: &[u8]) {
 fn packets_are_listed_to_the_call_that_fails(rt: HostRuntime) -> Result<(), Fail> {
     let alloc = rt.alloc();
     let packets = three_packets(alloc)?;
-    for (call, before) in BEFORE_EACH_CALL {
-        let fails = call < 4;
-        let read = run(alloc, "frames", packets.as_slice(), call, ROOM, 0)?;
-        check(&rt, &read, if fails { 4 } else { 0 }, before);
-        let written = run(alloc, "frames", packets.as_slice(), 0, ROOM, call)?;
-        check(&rt, &written, if fails { 5 } else { 0 }, before);
-    }
-    Ok(())
-}
-
-/// A script is read in two reads, the second of which finds the end. Where one fails nothing is printed.
-#[test]
-fn a_script_that_cannot_be_read_prints_nothing(rt: HostRuntime) -> Result<(), Fail> {
-    let alloc = rt.alloc();
-    for (call, status, printed) in [(1, 4, b"".as_slice()), (2, 4, b""), (3, 0, PRINTED)] {
-        check(
-            &rt,
-            &run(alloc, "replay", SCRIPT, call, ROOM, 0)?,
-            status,
-            printed,
-        );
-    }
-    Ok(())
-}
-
-/// A write that fails, and sinks with too little room: what was printed is a beginning of what was due.
-#[test]
-fn an_output_that_fails_has_a_beginning(rt: HostRuntime) -> Result<(), Fail> {
-    let alloc = rt.alloc();
-    for (word, due) in [("replay", PRINTED), ("", USAGE)] {
-        for (room, write) in [(ROOM, 1), (0, 0), (1, 0), (due.len().saturating_sub(1), 0)] {
-            let ran = run(alloc, word, SCRIPT, 0, room, write)?;
-            assert_eq!(rt; ran.status, 5);
-            assert!(rt; due.starts_with(ran.printed.as_slice()));
-        }
+    for (call, length, read_fails, write_fails) in BEFORE_EACH_CALL {
+        let (status, text) = run(alloc, &["frames"], packets.as_slice(), [*call, 0, 0], 4096)?;
+        assert_eq!(rt; status, *read_fails);
+        assert_eq!(rt; Some(text.as_slice()), LISTED.get(..*length));
+        let (status, text) = run(alloc, &["frames"], packets.as_slice(), [0, *call, 0], 4096)?;
+        assert_eq!(rt; status, *write_fails);
+        assert_eq!(rt; Some(text.as_slice()), LISTED.get(..*length));
     }
     Ok(())
 }

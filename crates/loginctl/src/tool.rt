@@ -10,6 +10,7 @@ use crate::login_words::choose;
 use crate::logins::print_login;
 use crate::printing::print;
 use crate::replay::{LONGEST_SCRIPT, due_for};
+use crate::status::Status;
 use lg_base::Memory;
 use lg_outside::{Dial, Sink, Source};
 use std::alloc::Global;
@@ -48,7 +49,7 @@ fn login_or_usage<W: Sink, L: Dial>(
     words: &[String],
     out: &mut W,
     link: &mut L,
-) -> u8
+) -> Status
     requires { L.finished link.old ≡ false }
     ensures answer { AnswersOther (map string_bytes words.now) (L.local link.old) (record {
       told = L.told link.old;
@@ -66,8 +67,8 @@ fn login_or_usage<W: Sink, L: Dial>(
 {
     match choose(alloc, words) {
         Ok(Some(chosen)) => print_login(alloc, &chosen, out, link),
-        Ok(None) => print(out, usage(), 2),
-        Err(Memory) => 6,
+        Ok(None) => print(out, usage(), Status::Usage),
+        Err(Memory) => Status::NoMemory,
     }
 }
 
@@ -86,7 +87,7 @@ pub fn run_tool<S: Source, W: Sink, L: Dial>(
     input: &mut S,
     out: &mut W,
     link: &mut L,
-) -> u8
+) -> Status
     requires { L.finished link.old ≡ false }
     ensures answer { Answers (map string_bytes words.now) (record {
       left = S.left input.old;
@@ -117,11 +118,11 @@ pub fn run_tool<S: Source, W: Sink, L: Dial>(
     }
     let text = match read_all(alloc, input, LONGEST_SCRIPT) {
         Ok(text) => text,
-        Err(ReadEnd::Fault) => return 4,
-        Err(ReadEnd::Memory) => return 6,
+        Err(ReadEnd::Fault) => return Status::InputFault,
+        Err(ReadEnd::Memory) => return Status::NoMemory,
     };
     match due_for(alloc, text.as_slice()) {
         Ok(due) => print(out, due.text.as_slice(), due.status),
-        Err(Memory) => 6,
+        Err(Memory) => Status::NoMemory,
     }
 }

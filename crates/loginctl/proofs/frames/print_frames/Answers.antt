@@ -6,6 +6,7 @@ use Rattle.packet_frame.specs.Framing.{place_of}
 use Rattle.loginctl.proofs.Dues.{printed-as, wrote-nothing}
 use Rattle.loginctl.proofs.Packets.{flushed, front-listed, front-written}
 use Rattle.loginctl.proofs.Told.{ended-answers, held-front, held-listed, held-more, held-nothing, part-after, printed-after, rose-later, wrote-more, wrote-part}
+use Rattle.loginctl.specs.declared.status.Status.TheVariants.{BadInput}
 use Rattle.loginctl.proofs.frames.print_frames.Goals as goal
 
 pub pieces-init : goal.pieces-init
@@ -46,10 +47,10 @@ returns-in-Ok-true-clause-answer g c =
     let r = i.read in
     let held = held-more _ _ _ r.0 c.in-Ok.count c.read.new.buf r.2 c.in-Ok.ensures.bytes in
     let lines = c.add_piece.new.self.lines in
-    ran c.print.result 3 (r.1 ++ lines)
-    (held-listed _ _ _ 3 (r.1 ++ lines) held (λ rest. c.in-Ok-true.ensures.bad r.0 r.1 rest r.4 c.in-Ok-true.field-0-test))
-    (printed-after _ _ _ _ _ 3 r.1 lines c.print.result r.3 (rose-later _ _ _ i.sink)
-    (printed-as _ _ _ 3 _ _ c.print.result c.as_slice.ensures c.print.ensures.printed))
+    ran c.print.result BadInput (r.1 ++ lines)
+    (held-listed _ _ _ BadInput (r.1 ++ lines) held (λ rest. c.in-Ok-true.ensures.bad r.0 r.1 rest r.4 c.in-Ok-true.field-0-test))
+    (printed-after _ _ _ _ _ BadInput r.1 lines c.print.result r.3 (rose-later _ _ _ i.sink)
+    (printed-as _ _ _ BadInput _ _ c.print.result c.as_slice.ensures c.print.ensures.printed))
 
 pub returns-in-Err-write_all-clause-answer : goal.returns-in-Err-write_all-clause-answer
 returns-in-Err-write_all-clause-answer g c =

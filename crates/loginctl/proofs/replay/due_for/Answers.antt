@@ -4,6 +4,7 @@ use Rattle.script_text.specs.Reading.{Reads}
 use Rattle.script_text.specs.declared.ScriptFault.{ScriptFault}
 use Rattle.loginctl.specs.Replayed.{IsDue, overlong, refused, replayed}
 use Rattle.loginctl.proofs.Dues.{due-refused}
+use Rattle.loginctl.specs.declared.status.Status.TheVariants.{Done}
 use Rattle.loginctl.proofs.replay.due_for.Goals as goal
 
 pub returns-then-input-gt-LONGEST_SCRIPT : goal.returns-then-input-gt-LONGEST_SCRIPT
@@ -12,7 +13,7 @@ returns-then-input-gt-LONGEST_SCRIPT c =
 
 pub returns-in_ok-replayed-in-Ok : goal.returns-in_ok-replayed-in-Ok
 returns-in_ok-replayed-in-Ok c =
-    subst (λ (text : List ℕ). IsDue c.args.input.now 0 text) (sym (c.in_ok-replayed-in-Ok.ensures {u = tt}))
+    subst (λ (text : List ℕ). IsDue c.args.input.now Done text) (sym (c.in_ok-replayed-in-Ok.ensures {u = tt}))
     (replayed c.in-Ok.script (let short = c.if-input-gt-LONGEST_SCRIPT.false in omega (arith, short)) (c.in-Ok.ensures {u = tt}).accepts.0
     (c.histories_are_legal.ensures c.in-Ok.script.setup.accounts c.in-Ok.script.setup.settings c.in-Ok.script.events)
     (c.sessions_are_transcripts.ensures c.in-Ok.script.setup.accounts c.in-Ok.script.setup.settings c.in-Ok.script.events))
