@@ -19,6 +19,7 @@ mod Restarted
 mod Roomy
 mod Seen
 mod Shown
+mod SoundStarts
 mod Starts
 pub mod Told
 mod Unrefused

@@ -43,7 +43,7 @@ native-moment : (id : ℕ) (xs : List Opening) → latest_moment (native_account
 native-moment id [] = refl
 native-moment id (x ∷ xs) = ap (λ (n : ℕ). max 0 n) (native-moment (id + 1) xs)
 
-native-rise : (low id : ℕ) (xs : List Opening) → low < id → Rise low (native_accounts id xs)
+pub native-rise : (low id : ℕ) (xs : List Opening) → low < id → Rise low (native_accounts id xs)
 native-rise low id [] h = tt
 native-rise low id (x ∷ xs) h = (h, native-rise id (id + 1) xs (omega arith))
 

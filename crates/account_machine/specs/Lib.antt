@@ -13,5 +13,6 @@ pub mod Openings
 pub mod Pasts
 pub mod Restarts
 pub mod Rows
+pub mod SoundStarts
 pub mod Stands
 pub mod Targets

@@ -1,6 +1,7 @@
 //! Laws of what is kept of accounts. Each function does nothing: its contract is the law.
 
 ghost use Rattle.account_machine.specs.Restarts.{RecordsFit, RestartsKeepAccounts, RowsAreRecords};
+ghost use Rattle.account_machine.specs.SoundStarts.{LoadedAreSound, OpenedAreSound};
 
 /// Each account after a legal history has a record, where each one at its start has.
 pub fn records_fit()
@@ -12,4 +13,11 @@ pub fn records_fit()
 pub fn restarts_keep_accounts()
     ensures rows { RowsAreRecords }
     ensures loaded { RestartsKeepAccounts }
+{}
+
+/// The accounts of every start are sound: those that `Accounts::opening` gives, and those that `Accounts::load` finds in the
+/// rows of a keeper.
+pub fn starts_are_sound()
+    ensures opened { OpenedAreSound }
+    ensures loaded { LoadedAreSound }
 {}
