@@ -34,3 +34,5 @@ mod Counting
 mod Worded
 mod Alike
 mod Ended
+mod Replying
+mod Replied

@@ -11,4 +11,5 @@ pub mod Replays
 pub mod Staged
 pub mod Standing
 pub mod Events
+pub mod Replies
 pub mod BothEnds
