@@ -20,7 +20,7 @@ due-refused input (Err want) line is status text = tt
 
 -- an input of which more than the limit was read is too long
 due-long : (held told : List ℕ) (status : Status) (text : List ℕ) → longest_script < length held → longest_script < length told → IsDue held status text → IsDue told status text
-due-long held told _ _ h t (replayed script short spells legal transcripts) = absurd (omega arith)
+due-long held told _ _ h t (replayed script short spells legal transcripts replies) = absurd (omega arith)
 due-long held told _ _ h t (refused line short none bad) = absurd (omega arith)
 due-long held told _ _ h t (overlong long) = overlong t
 

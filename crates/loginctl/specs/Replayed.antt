@@ -5,6 +5,7 @@ use Rattle.script_text.specs.Reading.{Contents, IsBadLine}
 use Rattle.session_world.specs.Standing.{replay_text}
 use Rattle.session_world.specs.Events.{all_doings, all_printed, lines_among, lines_for}
 use Rattle.session_world.specs.Replays.{Replay, after_events, new_replay}
+use Rattle.session_world.specs.Replies.{AreTold}
 use Rattle.session_world.specs.Transcripts.{IsHistory, IsTranscript, peer_at, session_bytes}
 use Rattle.loginctl.specs.declared.status.Status.{Status}
 use Rattle.loginctl.specs.declared.status.Status.TheVariants.{BadInput, Done}
@@ -36,13 +37,17 @@ AreTranscripts script =
     (session_bytes number (start_of script).world (all_doings (start_of script) script.events))
     (lines_for number (all_printed (start_of script) script.events))
 
+-- right behind each attempt and each statement of a session it has sent OK or the error that its reply says
+abbrev pub RepliesAreTold : Contents → Type 0
+RepliesAreTold script = (number : ℕ) → number ≢ 0 → AreTold (lines_for number (all_printed (start_of script) script.events))
+
 -- the text for a script
 abbrev pub script_text : Contents → List ℕ
 script_text script = replay_text script.setup.accounts script.setup.settings script.events
 
 -- The status and the text that are due for an input: a script gives the lines of its events, any other input one line.
 pub data IsDue (input : List ℕ) : Status → List ℕ → Type 0 where
-  replayed : (script : Contents) → length input ≤ longest_script → Spells input script → IsLegalRun script → AreTranscripts script
+  replayed : (script : Contents) → length input ≤ longest_script → Spells input script → IsLegalRun script → AreTranscripts script → RepliesAreTold script
       → IsDue input Done (script_text script)
   refused : (line : ℕ) → length input ≤ longest_script → ((script : Contents) → Spells input script → ⊥) → IsBadLine input line
       → IsDue input BadInput (bad_line line)

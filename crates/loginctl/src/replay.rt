@@ -9,7 +9,7 @@ use crate::status::Status;
 use lg_base::{Memory, Out};
 use script_text::{Script, ScriptFault};
 use session_world::World;
-use session_world::laws::{histories_are_legal, sessions_are_transcripts};
+use session_world::laws::{histories_are_legal, replies_are_told, sessions_are_transcripts};
 use std::alloc::Global;
 
 /// The most bytes of a script.
@@ -65,10 +65,11 @@ pub fn due_for(alloc: Global, input: &[u8]) -> Result<Outcome, Memory>
     if input.len() > LONGEST_SCRIPT {
         return refused(alloc, 0);
     }
-    // The laws: the entries that a script's events print are a legal history, and what they print of each session is a
-    // transcript.
+    // The laws: the entries that a script's events print are a legal history, what they print of each session is a
+    // transcript, and in it each reply is told.
     histories_are_legal();
     sessions_are_transcripts();
+    replies_are_told();
     match Script::read(alloc, input) {
         Ok(script) => Ok(Outcome {
             status: Status::Done,

@@ -16,7 +16,8 @@ returns-in_ok-replayed-in-Ok c =
     subst (λ (text : List ℕ). IsDue c.args.input.now Done text) (sym (c.in_ok-replayed-in-Ok.ensures {u = tt}))
     (replayed c.in-Ok.script (let short = c.if-input-gt-LONGEST_SCRIPT.false in omega (arith, short)) (c.in-Ok.ensures {u = tt}).accepts.0
     (c.histories_are_legal.ensures c.in-Ok.script.setup.accounts c.in-Ok.script.setup.settings c.in-Ok.script.events)
-    (c.sessions_are_transcripts.ensures c.in-Ok.script.setup.accounts c.in-Ok.script.setup.settings c.in-Ok.script.events))
+    (c.sessions_are_transcripts.ensures c.in-Ok.script.setup.accounts c.in-Ok.script.setup.settings c.in-Ok.script.events)
+    (c.replies_are_told.ensures c.in-Ok.script.setup.accounts c.in-Ok.script.setup.settings c.in-Ok.script.events))
 
 pub returns-in-Err-BadLine : goal.returns-in-Err-BadLine
 returns-in-Err-BadLine c =
