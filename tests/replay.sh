@@ -4,7 +4,8 @@
 # Each run of tests/replay is four files: NAME.args has its words on one line, NAME.script is its input, NAME.out what it
 # must print, and NAME.status its exit status. Then come runs that are made here: words and streams of the outside that no
 # file can hold, `frames` on streams that are too long to keep, whole pieces of 16,777,215 bytes, and `replay` on the
-# longest script, one that is too long, one of many accounts, and a login cut at every place.
+# longest script, one that is too long, ones of many accounts, a login cut at every place, and random ones. What the ones
+# with statements must print is restated by tests/restated.
 #
 # The last line is `N passed, M failed`. The program is proved and built first, or, with the word `--built`, was just now by
 # `rt ci`; where there is none nothing is run. A run of which a file is missing has failed, and so has the whole where
@@ -18,7 +19,7 @@ trap 'rm -rf "$folder"' EXIT
 printed=$folder/printed
 expected=$folder/expected
 # So many runs are stored at least: none goes unnoticed.
-least=130
+least=132
 passed=0
 failed=0
 
@@ -140,6 +141,29 @@ accounts() {
   printf 'entry 1 observe 3230303030\nentry 2 attempt 3230303030 opened\nsend 1 2 00000002000000\nend 2\n'
 } >"$expected"
 prints many-accounts 0 "$expected" replay < <(accounts)
+
+# Judges what `replay` prints of a script by what is restated of it: restated NAME SCRIPT
+restated() {
+  "$top/tests/restated" print <"$2" >"$expected" || fails "not restated: $1"
+  prints "$1" 0 "$expected" replay <"$2"
+}
+
+# 1,000 accounts, each with a digest that its first login leaves and its second one uses, all of which FLUSH PRIVILEGES
+# clears: the third login of each is asked for the whole password again.
+digests() {
+  seq 1 1000 | sed "s/.*/admin CREATE USER 'u&'@'localhost' IDENTIFIED BY 'p&'/"
+  seq 1 2000 | awk '{ digits = ($1 - 1) % 1000 + 1; gsub(/./, "3&", digits)
+    printf "client %d 1028a200 75%s 70%s\nrun %d\n", $1, digits, digits, $1 }'
+  echo 'admin FLUSH PRIVILEGES'
+  seq 2001 3000 | awk '{ digits = $1 - 2000; gsub(/./, "3&", digits)
+    printf "client %d 1028a200 75%s 70%s\ndown %d 100\nup %d 200\nstep %d\n", $1, digits, digits, $1, $1, $1 }'
+  echo end
+}
+.
+for ((seed = 1; seed <= 100; seed++)); do
+  "$top/tests/restated" random $seed >"$folder/script"
+  restated random-$seed "$folder/script"
+done
 
 # The bytes of a login in two pieces, cut at every place.
 bytes=$(sed -n 's/^bytes 1 //p' "$runs/empty.script")
