@@ -88,8 +88,8 @@ fn the_next_call_can_be_listed(rt: HostRuntime) -> Result<(), Fail> {
     Ok(())
 }
 
-/// A reader and writer that moves at most two bytes a call, and whose second call fails. Its fourth takes
-/// nothing.
+/// A reader and writer that moves at most two bytes a call. Its second call fails, a signal interrupts its third, and its
+/// fifth takes nothing.
 #[derive(Drop)]
 struct Halting<T> {
     inner: T,
@@ -102,7 +102,8 @@ impl<T> Halting<T> {
         self.calls = self.calls.saturating_add(1);
         match self.calls {
             2 => Err(Error::from(ErrorKind::BrokenPipe)),
-            4 => Ok(0),
+            3 => Err(Error::from(ErrorKind::Interrupted)),
+            5 => Ok(0),
             _ => Ok(length.min(2)),
         }
     }

@@ -1,5 +1,5 @@
 -- The counts of faults of what fails by its count, and what is told of what isn't.
-use Rattle.std.specs.Prelude.{ℕ, List, Bool, if◌then◌else◌, Option, None, Result, is_err}
+use Rattle.std.specs.Prelude.{ℕ, List, if◌then◌else◌, Option, None, Result, is_err}
 use Rattle.lg_outside.specs.Faults.{counted}
 use Rattle.server_outside.specs.declared.verifiers.Verdict.{Verdict}
 use Rattle.server_outside.specs.Halls.{Hall}

@@ -1,4 +1,4 @@
-//! A door and a connection to it in one process.
+//! Connections: to any socket, and to a door in the same process.
 
 ghost use Rattle.std.specs.Prelude.{◌≡◌, false};
 
@@ -9,6 +9,17 @@ use std::net::Net;
 use std::rt::Files;
 use std::time::Clock;
 use std::{fs, io};
+
+/// Connects a link, and prints how that ended.
+pub fn dial<R: Print, L: Dial>(rt: &R, peer: &mut L, path: &str) -> io::Result<()> {
+    match peer.dial(path) {
+        Ok(()) => println!(rt; "ok"),
+        Err(_) => {
+            let faults = peer.faults();
+            println!(rt; "failed {faults}")
+        }
+    }
+}
 
 /// What one end writes to the other.
 const WORD: &[u8; 4] = b"word";

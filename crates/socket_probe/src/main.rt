@@ -8,6 +8,9 @@
 //!   it is answered by `right`, `wrong` or `failed N` with the verifier's count of faults;
 //! - `draws` makes draws of two sessions, and is answered by `ok` where those of one session are the same each time and
 //!   those of two differ;
+//! - `time` is answered by a reading of the clock, in seconds since 1970;
+//! - `dial PATH` connects one link, the same each time, to the path, and is answered by `ok` or `failed N` with the link's
+//!   count of faults;
 //! - `both PATH` opens a door and connects to it in the same process, and is answered by `ok` where what is written at one
 //!   end is read at the other, and the file of the socket is gone at the end.
 //!
@@ -17,9 +20,10 @@
 mod ends;
 mod serving;
 
-use ends::meet;
+use ends::{dial, meet};
 use lg_base::Memory;
-use server_outside::{Draws, Maker, Verifier};
+use lg_outside::UnixLink;
+use server_outside::{Clock, Draws, Maker, Verifier};
 use server_sockets::{SocketVerifier, SystemMaker};
 use serving::keep_door;
 use std::io;
@@ -65,25 +69,38 @@ fn draws_stand<M: Maker>(maker: &mut M) -> Result<bool, Memory> {
     Ok(first == again && first != other)
 }
 
-fn print_draws(rt: &HostRuntime) -> io::Result<()> {
-    let mut maker = SystemMaker::new(rt.alloc(), *rt);
-    match draws_stand(&mut maker) {
+fn print_draws(rt: &HostRuntime, maker: &mut SystemMaker<HostRuntime>) -> io::Result<()> {
+    match draws_stand(maker) {
         Ok(true) => println!(rt; "ok"),
         Ok(false) => println!(rt; "failed"),
         Err(_) => println!(rt; "memory"),
     }
 }
 
+fn print_time(rt: &HostRuntime, maker: &mut SystemMaker<HostRuntime>) -> io::Result<()> {
+    match maker.clock() {
+        Ok(mut clock) => {
+            let seconds = clock.now();
+            println!(rt; "{seconds}")
+        }
+        Err(_) => println!(rt; "memory"),
+    }
+}
+
 fn main(rt: HostRuntime) -> io::Result<()> {
-    let mut verifier = SocketVerifier::new(rt.alloc(), rt, None).ok();
+    let mut maker = SystemMaker::new(rt.alloc(), rt);
+    let mut verifier = maker.verifier(None).ok();
+    let mut peer = UnixLink::new(rt);
     for line in rt.lines(rt.alloc()) {
         let line = line?;
         let (name, rest) = line.as_str().split_once(' ').unwrap_or((line.as_str(), ""));
         match (name, &mut verifier) {
             ("door", _) => keep_door(&rt, rest)?,
-            ("place", _) => verifier = SocketVerifier::new(rt.alloc(), rt, Some(rest)).ok(),
+            ("place", _) => verifier = maker.verifier(Some(rest)).ok(),
             ("ask", Some(verifier)) => ask(&rt, verifier, rest)?,
-            ("draws", _) => print_draws(&rt)?,
+            ("draws", _) => print_draws(&rt, &mut maker)?,
+            ("time", _) => print_time(&rt, &mut maker)?,
+            ("dial", _) => dial(&rt, &mut peer, rest)?,
             ("both", _) => meet(&rt, rest)?,
             _ => println!(rt; "bad")?,
         }
