@@ -1,0 +1,4 @@
+pub mod Fitted
+pub mod Grown
+pub mod Walked
+pub mod Served

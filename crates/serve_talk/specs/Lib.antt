@@ -1,0 +1,4 @@
+pub mod Sides
+pub mod Serving
+pub mod Fitting
+pub mod Paths
