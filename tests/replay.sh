@@ -159,7 +159,8 @@ digests() {
     printf "client %d 1028a200 75%s 70%s\ndown %d 100\nup %d 200\nstep %d\n", $1, digits, digits, $1, $1, $1 }'
   echo end
 }
-.
+digests >"$folder/script"
+restated digests-of-1000 "$folder/script"
 for ((seed = 1; seed <= 100; seed++)); do
   "$top/tests/restated" random $seed >"$folder/script"
   restated random-$seed "$folder/script"
