@@ -160,7 +160,11 @@ digests() {
   echo end
 }
 digests >"$folder/script"
-restated digests-of-1000 "$folder/script"
+restated flush-clears-1000-digests "$folder/script"
+[ "$(grep -c '^send .* 2 0103$' "$expected")" = 1000 ] && [ "$(grep -c '^send .* 2 0104$' "$expected")" = 2000 ] ||
+  fails 'not 1000 fast logins between 2000 others: flush-clears-1000-digests'
+
+# Random scripts of sessions, statements and clock readings.
 for ((seed = 1; seed <= 100; seed++)); do
   "$top/tests/restated" random $seed >"$folder/script"
   restated random-$seed "$folder/script"
