@@ -11,6 +11,7 @@
 mod attempting;
 mod clearing;
 mod committing;
+mod crossing;
 mod effects;
 pub mod executing;
 mod forgetting;
@@ -29,5 +30,6 @@ mod targets;
 mod verdicts;
 
 pub use account_history::{Opening, Prepared, Reply, StmtReply, Who, prepare};
+pub use crossing::accounts_cross;
 pub use loading::MachineFault;
 pub use machine::Accounts;

@@ -11,6 +11,7 @@
 #![tactic(auto)]
 
 mod calls;
+pub mod crossing;
 pub mod desk;
 pub mod laws;
 mod serving;
