@@ -275,8 +275,8 @@ class Store:
             account = self.new(*statement["name"], CACHING, b"")
             self.accounts.append(account)
             auth = statement["auth"] or {"method": None, "password": None, "retain": False}
-            self.clear(account)
             self.set_password(account, auth, False)
+            self.clear(account)
             account["labels"] = [label for _, label in statement["factors"]]
             self.set_options(account, statement["options"])
         else:

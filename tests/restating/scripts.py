@@ -103,21 +103,22 @@ def read(text):
     return (accounts, settings, events) if ended and lines[-1] == b"" else len(lines)
 
 
-USERS = ["ann", "bob", "nat", "root"]
-PASSWORDS = ["one", "two", "three", ""]
+USERS = ["ann", "ann", "bob", "nat", "root"]
+PASSWORDS = ["one", "one", "two", "three", ""]
 METHODS = ["mysql_native_password", "caching_sha2_password", "foo"]
 
 
 def random_name(draw):
     user = draw.choice(USERS)
-    return f"'{user}'" + draw.choice(["@'localhost'", "@localhost", "@'%'", ""] if user != "root" else ["@'localhost'"])
+    return f"'{user}'" + draw.choice(["@'localhost'", "@localhost", "@'localhost'", "@'%'", ""] if user != "root" else ["@'localhost'"])
 
 
 def random_options(draw):
     some = draw.sample([
         "PASSWORD EXPIRE", "PASSWORD EXPIRE NEVER", "PASSWORD EXPIRE DEFAULT", "PASSWORD EXPIRE INTERVAL 2 DAY",
         "PASSWORD HISTORY 2", "PASSWORD HISTORY DEFAULT", "PASSWORD REUSE INTERVAL 3 DAY", "PASSWORD HISTORY 257",
-        "FAILED_LOGIN_ATTEMPTS 2", "FAILED_LOGIN_ATTEMPTS 1", "PASSWORD_LOCK_TIME 1", "PASSWORD_LOCK_TIME UNBOUNDED",
+        "FAILED_LOGIN_ATTEMPTS 2 PASSWORD_LOCK_TIME 1", "FAILED_LOGIN_ATTEMPTS 1", "PASSWORD_LOCK_TIME 1",
+        "FAILED_LOGIN_ATTEMPTS 1 PASSWORD_LOCK_TIME UNBOUNDED",
         "ACCOUNT LOCK", "ACCOUNT UNLOCK", "PASSWORD REUSE INTERVAL 65536 DAY",
     ], draw.randrange(3))
     return "".join(" " + each for each in some)
@@ -127,7 +128,7 @@ def random_change(draw):
     by = f" BY '{draw.choice(PASSWORDS)}'"
     retain = draw.choice(["", " RETAIN CURRENT PASSWORD"])
     return draw.choice([
-        " IDENTIFIED" + by + retain, " IDENTIFIED" + by + retain, f" IDENTIFIED WITH {draw.choice(METHODS)}" + by + retain,
+        " IDENTIFIED" + by, " IDENTIFIED" + by, " IDENTIFIED" + by + retain, f" IDENTIFIED WITH {draw.choice(METHODS)}" + by + retain,
         f" IDENTIFIED WITH {draw.choice(METHODS)}", " DISCARD OLD PASSWORD", "", "", draw.choice([
             " DROP 2 FACTOR", " ADD 2 FACTOR IDENTIFIED WITH external_clear AS 'tok'",
             " ADD 3 FACTOR IDENTIFIED WITH external_clear AS 'key'", " DROP 3 FACTOR",
@@ -152,38 +153,61 @@ def random_statement(draw):
     ][kind - 9]
 
 
-def random_event(draw, session):
-    kind = draw.randrange(30)
-    if kind < 5:
-        return f"admin {random_statement(draw)}"
-    if kind < 7:
-        return f"clock {draw.choice([0, 1, 2, 3, 4]) * 86400 + draw.choice([-1, 0, 1, 50000]) + 1}"
-    if kind < 11:
-        user, secret = draw.choice(USERS).encode().hex(), draw.choice(PASSWORDS).encode().hex() or "-"
-        return f"client {session} {draw.choice(['1028a200', '1068a200', '0008a200'])} {user} {secret}"
-    if kind < 15:
-        return f"step {session}"
-    if kind < 21:
-        return f"run {session}"
-    if kind < 25:
-        return f"say {session} {random_statement(draw)}"
-    return draw.choice([
-        f"command {session} {draw.choice(['0e', '1f', '01', '05', '-'])}", f"up {session} {draw.choice([1, 40, 1000])}",
-        f"down {session} {draw.choice([1, 40, 1000])}", draw.choice(["fail keeper", f"open {session}"]),
-        draw.choice([f"close {session}", f"cut {session}", f"run {session}"]),
-        f"down {session} 1000\nup {session} 1000\nstep {session}\ndown {session} 1000\nup {session} 1000",
-    ])
+def random_pieces(draw, session):
+    """A session goes on in pieces, and the administrator often comes between."""
+    lines = []
+    for _ in range(draw.randrange(2, 6)):
+        lines += [f"down {session} 1000", f"up {session} {draw.choice([5, 1000, 1000])}"] if draw.randrange(2) else []
+        lines.append(f"step {session}")
+        if draw.randrange(3) == 0:
+            lines.append(f"admin {draw.choice([random_statement(draw), 'FLUSH PRIVILEGES'])}")
+    return lines
+
+
+def random_login(draw, session):
+    user = draw.choice(["ann", "ann", "ann", "bob", "nat", "root"])
+    secret = draw.choice(["", "", "", "one"] if user == "root" else ["one", "one", "one", "two", "three", ""])
+    flags = draw.choice(["1028a200", "1068a200", "0068a200"])
+    lines = [f"client {session} {flags} {user.encode().hex()} {secret.encode().hex() or '-'}"]
+    if draw.randrange(3) == 0:
+        lines += [f"down {session} 1000", f"up {session} 1000"] + random_pieces(draw, session)
+    return lines + [f"run {session}"] * (draw.randrange(6) != 0)
+
+
+def random_query(draw, session):
+    lines = [f"say {session} {random_statement(draw)}"]
+    if draw.randrange(3) == 0:
+        lines += [f"up {session} 1000"] + random_pieces(draw, session)
+    return lines + [f"run {session}"]
+
+
+def random_other(draw, session):
+    return [draw.choice([
+        f"clock {draw.choice([0, 1, 2, 3, 4]) * 86400 + draw.choice([0, 1, 2, 50000])}", f"step {session}", f"run {session}",
+        f"command {session} {draw.choice(['0e', '1f', '01', '05', '-'])}\nrun {session}", f"open {session}",
+        f"up {session} {draw.choice([1, 40, 1000])}", f"down {session} {draw.choice([1, 40, 1000])}", "fail keeper",
+        f"{draw.choice(['close', 'cut'])} {session}",
+    ])]
 
 
 def random_script(seed):
-    """A script by a seed: accounts, settings, and events of a few sessions, which often come to be opened."""
+    """A script by a seed: accounts, settings, and then logins, statements, and other events of some sessions."""
     draw = random.Random(seed)
-    lines = [f"account {b'nat'.hex()} {draw.choice([b'one', b'two']).hex()}"]
+    lines = [f"account {b'nat'.hex()} {b'one'.hex()}"]
     for kind, most in (("lifetime", 2), ("history", 2), ("reuse", 2), ("disconnect", 1)):
         if draw.randrange(3) == 0:
             lines.append(f"set {kind} {draw.randrange(most + 1)}")
-    session = 1
-    for _ in range(draw.randrange(10, 120)):
-        session += draw.randrange(4) == 0
-        lines.append(random_event(draw, max(1, session - draw.choice([0, 0, 0, 1, 2]))))
+    lines += [f"admin CREATE USER 'ann'@'localhost' IDENTIFIED BY 'one'{random_options(draw)}"]
+    lines += [f"admin CREATE USER 'bob' IDENTIFIED WITH {draw.choice(METHODS[:2])} BY 'one'{random_options(draw)}"]
+    last = 0
+    for _ in range(draw.randrange(10, 60)):
+        kind = draw.randrange(10)
+        if last == 0 or kind < 3:
+            last += 1
+            lines += random_login(draw, last)
+        elif kind < 5:
+            lines.append(f"admin {random_statement(draw)}")
+        else:
+            do = random_query if kind < 8 else random_other
+            lines += do(draw, max(1, last - draw.choice([0, 0, 0, 1, 2])))
     return "\n".join(lines + ["end", ""]).encode()
