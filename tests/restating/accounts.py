@@ -219,7 +219,8 @@ class Store:
             return None
         history, reuse = self.limits(account, statement["options"])
         past = account["past"]
-        if any(old == password and (place < history or self.moment < at + DAY * reuse) for place, (at, old) in enumerate(past)):
+        used = [(place, at) for place, (at, old) in enumerate(past) if old == password]
+        if any(place < history or self.moment < at + DAY * reuse for place, at in used):
             return 3638, "HY000", b"The password contradicts the password history policy"
         if len(past) == 256 and self.moment < past[-1][0] + DAY * reuse:
             return 50005, "HY000", b"The account keeps 256 passwords that may not be used again yet"

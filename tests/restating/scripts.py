@@ -15,8 +15,7 @@ EVENTS = [
     ("clock", rb"clock " + NUMBER, "n"),
     ("admin", rb"admin (.*)", "t"),
     ("open", rb"open " + SESSION, "s"),
-    ("client", rb"client " + SESSION + rb" ([0-9A-Fa-f]{8}) " + HEX + b" " + HEX + rb"(?: " + HEX + rb")?(?: " + HEX + rb")?",
-     "sfhhhh"),
+    ("client", rb"client " + SESSION + rb" ([0-9A-Fa-f]{8}) " + HEX + b" " + HEX + 2 * (rb"(?: " + HEX + b")?"), "sfhhhh"),
     ("bytes", rb"bytes " + SESSION + b" " + HEX, "sh"),
     ("up", rb"up " + SESSION + b" " + NUMBER, "sn"),
     ("down", rb"down " + SESSION + b" " + NUMBER, "sn"),
@@ -110,7 +109,8 @@ METHODS = ["mysql_native_password", "caching_sha2_password", "foo"]
 
 def random_name(draw):
     user = draw.choice(USERS)
-    return f"'{user}'" + draw.choice(["@'localhost'", "@localhost", "@'localhost'", "@'%'", ""] if user != "root" else ["@'localhost'"])
+    hosts = ["@'localhost'", "@localhost", "@'localhost'", "@'%'", ""] if user != "root" else ["@'localhost'"]
+    return f"'{user}'" + draw.choice(hosts)
 
 
 def random_options(draw):
@@ -128,7 +128,8 @@ def random_change(draw):
     by = f" BY '{draw.choice(PASSWORDS)}'"
     retain = draw.choice(["", " RETAIN CURRENT PASSWORD"])
     return draw.choice([
-        " IDENTIFIED" + by, " IDENTIFIED" + by, " IDENTIFIED" + by + retain, f" IDENTIFIED WITH {draw.choice(METHODS)}" + by + retain,
+        " IDENTIFIED" + by, " IDENTIFIED" + by, " IDENTIFIED" + by + retain,
+        f" IDENTIFIED WITH {draw.choice(METHODS)}" + by + retain,
         f" IDENTIFIED WITH {draw.choice(METHODS)}", " DISCARD OLD PASSWORD", "", "", draw.choice([
             " DROP 2 FACTOR", " ADD 2 FACTOR IDENTIFIED WITH external_clear AS 'tok'",
             " ADD 3 FACTOR IDENTIFIED WITH external_clear AS 'key'", " DROP 3 FACTOR",
