@@ -1,7 +1,9 @@
 -- What is due for the bytes that were read is due for all that the source told.
 use Rattle.std.proofs.Common.{◌≡◌, refl, ap, sym, ◌∙◌, ℕ, ◌<◌, ◌≤◌, List, [], ◌++◌, length, Option, Some, None, Result, Ok, Err, IfOk, IfSome, subst, arith, append-nil, length-append, ◌⊎◌, inl, inr, ⊎_elim, nat_lt, ltb-true, ltb-false, Bool, true, false}
 use Rattle.loginctl.specs.Input.{Held}
-use Rattle.loginctl.specs.Replayed.{IsDue, bad_line, longest_script, overlong, refused, replayed}
+use Rattle.large_script.specs.Generating.{generated}
+use Rattle.loginctl.specs.Generated.{IsSummedUp, generated_line, summed_up}
+use Rattle.loginctl.specs.Replayed.{IsDue, IsLegalRun, bad_line, longest_script, overlong, refused, replayed}
 use Rattle.lg_outside.specs.Streams.{Adds}
 use Rattle.lg_outside.specs.declared.streams.Failed.{Failed}
 use Rattle.loginctl.specs.Printing.{Printed, Wrote, cut, whole}
@@ -17,6 +19,11 @@ pub due-refused : (input : List ℕ) (made : Result Outcome Memory) (line : ℕ)
 due-refused input (Ok due) line is status text =
     subst (λ (s : Status). IsDue input s due.text) (sym status) (subst (λ (t : List ℕ). IsDue input BadInput t) (sym text) is)
 due-refused input (Err want) line is status text = tt
+
+-- the line of a large run
+pub due-summed : (made : Result (List ℕ) Memory) (number : ℕ) → IsLegalRun (generated number) → IfOk made (λ line. line ≡ generated_line number) → IfOk made (IsSummedUp number)
+due-summed (Ok line) number legal is = subst (λ (l : List ℕ). IsSummedUp number l) (sym is) (summed_up legal)
+due-summed (Err want) number legal is = tt
 
 -- an input of which more than the limit was read is too long
 due-long : (held told : List ℕ) (status : Status) (text : List ℕ) → longest_script < length held → longest_script < length told → IsDue held status text → IsDue told status text

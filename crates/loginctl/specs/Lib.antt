@@ -1,4 +1,5 @@
 pub mod Frames
+pub mod Generated
 pub mod Input
 pub mod Listing
 pub mod LoginWords

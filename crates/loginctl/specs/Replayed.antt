@@ -22,6 +22,10 @@ bad_line number = codes "bad line " ++ decimal number ++ 10 ∷ []
 abbrev pub start_of : Contents → Replay
 start_of script = new_replay script.setup.accounts script.setup.settings
 
+-- the replay that it comes to
+abbrev pub end_of : Contents → Replay
+end_of script = after_events (start_of script) script.events
+
 -- the entries that are printed for a script's events are a legal history
 abbrev pub IsLegalRun : Contents → Type 0
 IsLegalRun script =

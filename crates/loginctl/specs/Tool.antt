@@ -1,13 +1,15 @@
 -- What the words and the input of `loginctl` are answered.
-use Rattle.std.specs.Prelude.{◌≡◌, Bool, true, false, ℕ, List, [], ◌∷◌, ◌++◌, codes, Option, Some, None}
+use Rattle.std.specs.Prelude.{◌≡◌, Bool, true, false, ℕ, List, [], ◌∷◌, ◌++◌, codes, Option, Some, None, if◌then◌else◌}
 use Rattle.std.specs.Str.{bytes_eq}
 use Rattle.lg_outside.specs.Faults.{Rose}
 use Rattle.loginctl.specs.Frames.{AnswersFrames}
+use Rattle.loginctl.specs.Generated.{AnswersGenerated}
 use Rattle.loginctl.specs.LoginWords.{Choice, Chooses}
 use Rattle.loginctl.specs.Logins.{AnswersLogin}
 use Rattle.loginctl.specs.Outsides.{LinkState, SourceState}
 use Rattle.loginctl.specs.Printing.{Printed, Wrote}
 use Rattle.loginctl.specs.Replayed.{IsDue}
+use Rattle.script_text.specs.Words.{number_word}
 use Rattle.loginctl.specs.declared.status.Status.{Status}
 use Rattle.loginctl.specs.declared.status.Status.TheVariants.{InputFault, NoMemory, Usage}
 
@@ -15,6 +17,12 @@ use Rattle.loginctl.specs.declared.status.Status.TheVariants.{InputFault, NoMemo
 abbrev pub is_replay_words : List (List ℕ) → Bool
 is_replay_words (word ∷ []) = bytes_eq word (codes "replay")
 is_replay_words _ = false
+
+-- the number of a large run, where the words are `replay`, `--generate` and that number
+abbrev pub generated_by : List (List ℕ) → Option ℕ
+generated_by (word ∷ option ∷ number ∷ []) =
+    if bytes_eq word (codes "replay") then (if bytes_eq option (codes "--generate") then number_word 4294967295 number else None) else None
+generated_by _ = None
 
 -- the words are the one word `frames`
 abbrev pub is_frames_words : List (List ℕ) → Bool
@@ -30,7 +38,7 @@ abbrev pub Due : Option (List ℕ) → Status → List ℕ → Type 0
 Due None status text = (input : List ℕ) × IsDue input status text
 Due (Some input) status text = IsDue input status text
 
--- What words answer that are neither `replay` nor `frames`, by the link before and after, what was written before and
+-- What words answer that are those of neither `replay` nor `frames`, by the link before and after, what was written before and
 -- after, and whether the sink's count of faults rose.
 pub data AnswersOther (words : List (List ℕ)) (local : Bool) (link link' : LinkState) (before after : Option (List ℕ)) (SinkRose : Type 0) : Status → Type 0 where
   -- they are those of a login
@@ -45,11 +53,14 @@ pub data AnswersOther (words : List (List ℕ)) (local : Bool) (link link' : Lin
 -- What a run answers, by its words, the source and the link before and after, what was written before and after, and
 -- whether the sink's count of faults rose. Only a login touches the link, and it leaves the source.
 pub data Answers (words : List (List ℕ)) (source source' : SourceState) (local : Bool) (link link' : LinkState) (before after : Option (List ℕ)) (SinkRose : Type 0) : Status → Type 0 where
-  -- the words are neither `replay` nor `frames`
-  other : (result : Status) → is_replay_words words ≡ false → is_frames_words words ≡ false → source' ≡ source → AnswersOther words local link link' before after SinkRose result
+  -- the words are those of neither `replay` nor `frames`
+  other : (result : Status) → is_replay_words words ≡ false → generated_by words ≡ None → is_frames_words words ≡ false → source' ≡ source → AnswersOther words local link link' before after SinkRose result
       → Answers words source source' local link link' before after SinkRose result
   -- packets are listed
   frames : (result : Status) → is_frames_words words ≡ true → link' ≡ link → AnswersFrames source.left before after (Rose source.faults source'.faults) SinkRose result
+      → Answers words source source' local link link' before after SinkRose result
+  -- a large run is summed up, and the source is left
+  generated : (result : Status) (number : ℕ) → generated_by words ≡ Some number → source' ≡ source → link' ≡ link → AnswersGenerated number before after SinkRose result
       → Answers words source source' local link link' before after SinkRose result
   -- the script was read to its end, or past the limit
   ran : (result status : Status) (text : List ℕ) → is_replay_words words ≡ true → link' ≡ link → Due source.left status text

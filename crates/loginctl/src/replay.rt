@@ -1,11 +1,16 @@
 //! The replay of a script: its events happen in a world, one by one, and their lines are printed.
 
 ghost use Rattle.loginctl.specs.Replayed as text;
-ghost use Rattle.loginctl.specs.Replayed.{IsDue, script_text};
+ghost use Rattle.loginctl.specs.Replayed.{IsDue, end_of, script_text, start_of};
+ghost use Rattle.loginctl.specs.Generated as summed;
+ghost use Rattle.loginctl.specs.Generated.{IsSummedUp};
+ghost use Rattle.session_world.specs.Replays.{text_of};
+ghost use Rattle.session_world.specs.Standing.{Mirrors};
 ghost use Rattle.std.specs.Prelude.{◌≡◌, IfOk};
 
 use crate::printing::add_number;
 use crate::status::Status;
+use large_script::{SESSIONS, generate};
 use lg_base::{Memory, Out};
 use script_text::{Script, ScriptFault};
 use session_world::World;
@@ -22,17 +27,50 @@ pub struct Outcome {
     pub text: Out,
 }
 
-/// The lines of a script's events, and the last line.
-fn replayed(alloc: Global, script: &Script) -> Result<Out, Memory>
-    ensures { IfOk result (λ text. text ≡ script_text script.now) }
+/// The world after a script's events, and their lines.
+fn run_script(alloc: Global, script: &Script) -> Result<(World, Out), Memory>
+    ensures world { IfOk result (λ run. Mirrors run.0 (end_of script.now)) }
+    ensures lines { IfOk result (λ run. run.1 ≡ text_of (start_of script.now) (script.now).events) }
 {
     let mut world = World::new(alloc, script.setup())?;
     let mut out = Out::new(alloc);
     'events: for event in script.events() {
         world.step(event, &mut out)?;
     }
-    world.finish(&mut out)?;
-    Ok(out)
+    Ok((world, out))
+}
+
+/// The lines of a script's events, and the last line.
+fn replayed(alloc: Global, script: &Script) -> Result<Out, Memory>
+    ensures { IfOk result (λ text. text ≡ script_text script.now) }
+{
+    let (world, mut text) = run_script(alloc, script)?;
+    world.finish(&mut text)?;
+    Ok(text)
+}
+
+/// The line that sums up the large run of a number.
+#[tactic(auto, unfolding(crate::specs::Generated::generated_line))]
+fn generated_line(alloc: Global, number: u32) -> Result<Out, Memory>
+    ensures { IfOk result (λ line. line ≡ summed.generated_line number) }
+{
+    let script = generate(alloc, number)?;
+    let (world, _lines) = run_script(alloc, &script)?;
+    let mut line = Out::new(alloc);
+    line.bytes(b"sessions ")?;
+    add_number(&mut line, u64::from(SESSIONS))?;
+    line.byte(b' ')?;
+    world.summary(&mut line)?;
+    Ok(line)
+}
+
+/// What the large run of a number prints.
+pub fn sum_up(alloc: Global, number: u32) -> Result<Out, Memory>
+    ensures { IfOk result (IsSummedUp number) }
+{
+    // The law: the entries that a script's events print are a legal history.
+    histories_are_legal();
+    generated_line(alloc, number)
 }
 
 /// The line for an input that is no script.

@@ -50,6 +50,7 @@ use std::alloc::Global;
 use std::marker::Model;
 use thiserror::Error;
 use words::cut;
+pub use words::number_of;
 
 /// Why a text is no script.
 #[derive(Debug, PartialEq, Eq, Drop, Error)]
@@ -93,8 +94,16 @@ impl Model for Script {
 
 impl Script {
     ghost use Rattle.script_text.specs.Grammar.{Accepts};
-    ghost use Rattle.script_text.specs.Reading.{AreEvents, IsSetup, Reads};
+    ghost use Rattle.script_text.specs.Reading.{AreEvents, IsContents, IsSetup, Reads};
     ghost use Rattle.std.specs.Prelude.{◌≡◌};
+
+    /// The script of a setup and of events that lines can give.
+    pub fn new(setup: Setup, events: Items<Event>) -> Script
+        requires { IsContents setup events }
+        ensures { result ≡ record { setup = setup; events = events } }
+    {
+        Script { setup, events }
+    }
 
     /// What `text` says, or the first of its lines that doesn't fit. It takes time as the text is long, and
     /// a little more for each account. Only a text that is no script has a bad line.

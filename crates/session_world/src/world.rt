@@ -3,7 +3,7 @@
 ghost use Rattle.script_text.specs.EventLines.{IsEvent};
 ghost use Rattle.script_text.specs.Reading.{IsSetup};
 ghost use Rattle.session_world.specs.Replays.{Replay, happens, new_replay, printed_text};
-ghost use Rattle.session_world.specs.Standing.{HasFailed, Mirrors, last_text};
+ghost use Rattle.session_world.specs.Standing.{HasFailed, Mirrors, last_text, summary_text};
 ghost use Rattle.std.specs.Prelude.{◌≡◌, ◌++◌, IfOk, OnErr, OnOk, IsErr};
 
 use crate::stage::Stage;
@@ -13,7 +13,7 @@ use script_text::{Event, Setup};
 use std::alloc::Global;
 use std::collections::BTreeMap;
 use world_table::Table;
-use world_table::printing::print_last;
+use world_table::printing::{print_last, print_summary};
 
 /// Accounts with their history, a clock, draws, and sessions by their numbers, some with a login client.
 #[derive(Drop)]
@@ -81,6 +81,23 @@ impl World {
         }
         let mut line = Out::new(self.alloc);
         print_last(&mut line, self.stage.state.table.entries())?;
+        out.bytes(line.as_slice())
+    }
+
+    /// Adds the line that sums up the history: how many entries it has, how many attempts that opened, and how many others.
+    /// After `Memory` nothing is added. A world that has failed answers so.
+    #[tactic(auto, unfolding(crate::specs::Standing::HasFailed, crate::specs::Standing::Mirrors))]
+    pub fn summary(&self, out: &mut Out) -> Result<(), Memory>
+        ensures printed { (r : Replay) → Mirrors self.now r → OnOk result (out.new ≡ out.old ++ summary_text r) }
+        ensures unprinted { OnErr result (out.new ≡ out.old) }
+        ensures stays { HasFailed self.now → IsErr result }
+    {
+        if self.failed {
+            return Err(Memory);
+        }
+        let table = &self.stage.state.table;
+        let mut line = Out::new(self.alloc);
+        print_summary(&mut line, table.entries(), table.opened(), table.refused())?;
         out.bytes(line.as_slice())
     }
 }

@@ -1,4 +1,5 @@
 pub mod Drawing
+pub mod Attempts
 pub mod Table
 pub mod Printing
 pub mod Statements

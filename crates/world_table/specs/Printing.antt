@@ -89,3 +89,9 @@ send_lines (sent ∷ more) = Sends sent ∷ send_lines more
 -- the last line: how many entries there are
 unfoldable pub end_line : (entries : ℕ) → List ℕ
 end_line entries = codes "end " ++ decimal entries ++ 10 ∷ []
+
+-- the line that sums up a history: how many entries it has, how many of them are attempts that opened, and how many are other
+-- attempts
+unfoldable pub summary_line : (entries opened refused : ℕ) → List ℕ
+summary_line entries opened refused =
+    (codes "entries " ++ decimal entries ++ 32 ∷ []) ++ (codes "opened " ++ decimal opened ++ 32 ∷ []) ++ codes "refused " ++ decimal refused ++ 10 ∷ []

@@ -11,6 +11,7 @@ use Rattle.account_history.specs.Answers.{attempt_reply, look_of}
 use Rattle.account_history.specs.Histories.{history, noted}
 use Rattle.account_history.specs.Legal.{last_count}
 use Rattle.account_history.specs.Stamps.{stamp}
+use Rattle.world_table.specs.Attempts.{opened_in, refused_in}
 
 -- what all sessions of a world have in common: the history, the reading of the clock, how many nonces and salts were drawn,
 -- and whether the next call of the keeper fails
@@ -55,8 +56,11 @@ attempted c user evidences flags = Attempted (record {
 abbrev pub is_stale : Common → Look → Bool
 is_stale c look = nat_lt look.stamp (stamp (history c.log) look.user)
 
--- what the code counts: the entries of the history, and the keeper's faults that the history tells
-pub record AreCounted (entries faults : ℕ) (log : Log) (kept : ℕ) : Type 0 where
+-- what the code counts: the entries of the history, the attempts among them that opened, the other attempts, and the keeper's
+-- faults that the history tells
+pub record AreCounted (entries opened refused faults : ℕ) (log : Log) (kept : ℕ) : Type 0 where
   pub entries_are : entries ≡ length log.entries
+  pub opened_are : opened ≡ opened_in log
+  pub refused_are : refused ≡ refused_in log
   pub faults_are : faults ≡ last_count (history log)
   pub keeper_has : faults ≤ kept

@@ -162,6 +162,16 @@ pub fn print_last(out: &mut Out, entries: u64) -> Result<(), Memory>
     add_numbered(out, b"end ", entries, b'\n')
 }
 
+/// The line that sums up a history.
+#[tactic(auto, unfolding(crate::specs::Printing::summary_line))]
+pub fn print_summary(out: &mut Out, entries: u64, opened: u64, refused: u64) -> Result<(), Memory>
+    ensures { OnOk result (out.new ≡ out.old ++ text.summary_line entries opened refused) }
+{
+    add_numbered(out, b"entries ", entries, b' ')?;
+    add_numbered(out, b"opened ", opened, b' ')?;
+    add_numbered(out, b"refused ", refused, b'\n')
+}
+
 /// The line of a payload that is sent.
 #[tactic(auto, unfolding(crate::specs::Printing::line_text))]
 fn print_send(out: &mut Out, session: u32, first: u8, payload: &[u8]) -> Result<(), Memory>

@@ -1,16 +1,18 @@
 //! What all sessions of a world have in common: the accounts with their history and their keeper, the clock, the draws.
 
 ghost use Rattle.account_history.specs.declared.entries.Entry.TheVariants.{Executed, Observed};
+ghost use Rattle.account_history.specs.Replies.{opens};
 ghost use Rattle.account_history.specs.Sound.{IsWritten};
 ghost use Rattle.sha256_crypt.specs.Alphabet.{IsSaltByte};
 ghost use Rattle.std.specs.List.{All};
+ghost use Rattle.world_table.specs.Attempts.{opened_in, refused_in};
 ghost use Rattle.world_table.specs.Drawing.{drawn_nonce};
 ghost use Rattle.world_table.specs.Statements.{administered, executed, executes, executes_salted, executes_seen, with_execution};
 ghost use Rattle.world_table.specs.Table.{attempted, is_stale, next_number, replied, seen, with_draw, with_entry, with_failure};
 ghost use Rattle.world_table.specs.Printing.{entry_line, lines_text};
 ghost use Rattle.account_machine.specs.Openings.{are_openings, opening_start};
 ghost use Rattle.session_talk.specs.Turns.{has_few_labels};
-ghost use Rattle.std.specs.Prelude.{◌≡◌, ◌+◌, ◌++◌, [], false, length, IfOk, IsTrue, OnOk, ◌&&◌, not, if◌then◌else◌};
+ghost use Rattle.std.specs.Prelude.{◌≡◌, ◌+◌, ◌<◌, ◌^◌, ◌++◌, [], cond, false, length, IfOk, IsTrue, OnOk, ◌&&◌, not, if◌then◌else◌};
 
 use crate::printing::{print_attempt, print_look, print_statement};
 use crate::statements::{has_by, is_keeper_fault, is_preparable, no_salt, was_called, who_of};
@@ -41,6 +43,9 @@ pub struct Table {
     clock: u64,
     drawn: u64,
     entries: u64,
+    /// The attempts among them that opened, and the others.
+    opened: u64,
+    refused: u64,
     /// The faults of the keeper that the history tells.
     faults: u64,
 }
@@ -52,7 +57,7 @@ impl Model for Table {
 
     ghost view = { λ t. record { log = t.accounts; clock = t.clock; drawn = t.drawn; fails = t.fails } };
 
-    ghost invariant = { λ t. AreCounted t.entries t.faults t.accounts t.keeper.plan.faults };
+    ghost invariant = { λ t. AreCounted t.entries t.opened t.refused t.faults t.accounts t.keeper.plan.faults };
 }
 
 /// The nonce of a draw: its number, in 20 digits.
@@ -79,6 +84,21 @@ fn one_more(number: u64) -> Result<u64, Memory>
         Some(next) => Ok(next),
         None => Err(Memory),
     }
+}
+
+/// One more where the one that came is counted.
+fn more_where(count: u64, counts: bool) -> u64
+    requires { count + 1 < 2 ^ 64 }
+    ensures { result ≡ count + cond counts 1 0 }
+{
+    count + u64::from(counts)
+}
+
+/// Whether a session opens, also one that is in a sandbox.
+fn opens(reply: Reply) -> bool
+    ensures { result ≡ opens reply }
+{
+    matches!(reply, Reply::Opened { .. } | Reply::Sandbox { .. })
 }
 
 /// Tests that the keeper went as it was told: it failed exactly where it was called and was to fail, and its count, which was
@@ -120,6 +140,8 @@ impl Table {
             clock: 0,
             drawn: 0,
             entries: 0,
+            opened: 0,
+            refused: 0,
             faults: 0,
         })
     }
@@ -145,6 +167,20 @@ impl Table {
         ensures { result ≡ length self.now.log.entries }
     {
         self.entries
+    }
+
+    /// How many attempts of the history opened, also those in a sandbox.
+    pub fn opened(&self) -> u64
+        ensures { result ≡ opened_in self.now.log }
+    {
+        self.opened
+    }
+
+    /// How many other attempts the history has.
+    pub fn refused(&self) -> u64
+        ensures { result ≡ refused_in self.now.log }
+    {
+        self.refused
     }
 
     /// Draws a nonce or a salt.
@@ -197,7 +233,10 @@ impl Table {
         let entries = one_more(self.entries)?;
         let reading = self.clock;
         let reply = self.accounts.attempt_here(user, evidences, flags, reading);
+        let opened = opens(reply);
         self.entries = entries;
+        self.opened = more_where(self.opened, opened);
+        self.refused = more_where(self.refused, !opened);
         print_attempt(out, entries, user, reply)?;
         Ok(reply)
     }

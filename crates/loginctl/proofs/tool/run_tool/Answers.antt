@@ -1,15 +1,19 @@
 use Rattle.std.proofs.Common.{refl, sym, ◌∙◌, List, ℕ, subst}
 use Rattle.loginctl.proofs.Dues.{due-told, printed-as, wrote-nothing}
 use Rattle.loginctl.specs.Replayed.{IsDue}
-use Rattle.loginctl.specs.Tool.{frames, no_memory, other, ran, source_fault}
+use Rattle.loginctl.specs.Tool.{frames, generated, no_memory, other, ran, source_fault}
 use Rattle.loginctl.proofs.tool.run_tool.Goals as goal
 
 pub returns-then-is_frames-clause-answer : goal.returns-then-is_frames-clause-answer
 returns-then-is_frames-clause-answer g c = frames c.print_frames.result (sym c.is_frames.ensures ∙ c.if-is_frames.true) refl c.print_frames.ensures.answer
 
+pub returns-in-Some-clause-answer : goal.returns-in-Some-clause-answer
+returns-in-Some-clause-answer g c =
+    generated c.print_generated.result c.in-Some.number (sym c.generated_by.ensures ∙ c.in-Some.is) refl refl c.print_generated.ensures.answer
+
 pub returns-then-not-is_replay-clause-answer : goal.returns-then-not-is_replay-clause-answer
 returns-then-not-is_replay-clause-answer g c =
-    other c.login_or_usage.result (sym c.is_replay.ensures ∙ c.if-not-is_replay.true) (sym c.is_frames.ensures ∙ c.if-is_frames.false) refl c.login_or_usage.ensures.answer
+    other c.login_or_usage.result (sym c.is_replay.ensures ∙ c.if-not-is_replay.true) (sym c.generated_by.ensures ∙ c.in_default.is) (sym c.is_frames.ensures ∙ c.if-is_frames.false) refl c.login_or_usage.ensures.answer
 
 pub returns-in-Err-Fault-clause-answer : goal.returns-in-Err-Fault-clause-answer
 returns-in-Err-Fault-clause-answer g c =

@@ -12,19 +12,19 @@ use Rattle.world_table.proofs.table.Table.execute.Goals as goal
 
 pub invariant_of-self-in_err-test_keeper : goal.invariant_of-self-in_err-test_keeper
 invariant_of-self-in_err-test_keeper c =
-    after_execution c.self.inside.accounts c.commit_here.new.self c.self.inside.entries c.self.inside.faults c.self.inside.keeper.plan.faults
+    after_execution c.self.inside.accounts c.commit_here.new.self c.self.inside.entries c.self.inside.opened c.self.inside.refused c.self.inside.faults c.self.inside.keeper.plan.faults
     c.in_ok-entries.entries c.self.invariant (c.in_ok-entries.ensures {u = tt}) _ c.faults-count.result c.commit_here.new.keeper.plan.faults
     (c.in_ok-reply.ensures {u = tt}).entry c.faults-count.ensures refl
 
 pub invariant_of-self-in_err-print_statement : goal.invariant_of-self-in_err-print_statement
 invariant_of-self-in_err-print_statement c =
-    after_execution c.self.inside.accounts c.commit_here.new.self c.self.inside.entries c.self.inside.faults c.self.inside.keeper.plan.faults
+    after_execution c.self.inside.accounts c.commit_here.new.self c.self.inside.entries c.self.inside.opened c.self.inside.refused c.self.inside.faults c.self.inside.keeper.plan.faults
     c.in_ok-entries.entries c.self.invariant (c.in_ok-entries.ensures {u = tt}) _ c.faults-count.result c.commit_here.new.keeper.plan.faults
     (c.in_ok-reply.ensures {u = tt}).entry c.faults-count.ensures refl
 
 pub invariant_of-self-2 : goal.invariant_of-self-2
 invariant_of-self-2 c =
-    after_execution c.self.inside.accounts c.commit_here.new.self c.self.inside.entries c.self.inside.faults c.self.inside.keeper.plan.faults
+    after_execution c.self.inside.accounts c.commit_here.new.self c.self.inside.entries c.self.inside.opened c.self.inside.refused c.self.inside.faults c.self.inside.keeper.plan.faults
     c.in_ok-entries.entries c.self.invariant (c.in_ok-entries.ensures {u = tt}) _ c.faults-count.result c.commit_here.new.keeper.plan.faults
     (c.in_ok-reply.ensures {u = tt}).entry c.faults-count.ensures refl
 

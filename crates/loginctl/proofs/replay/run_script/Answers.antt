@@ -3,7 +3,7 @@ use Rattle.std.proofs.Math.Numerals.{add-one}
 use Rattle.std.proofs.Math.Seq.{drop-cons}
 use Rattle.script_text.specs.declared.event.Event.{Event}
 use Rattle.session_world.specs.Replays.{Replay, after_events, happens, printed_text, text_of}
-use Rattle.loginctl.proofs.replay.replayed.Goals as goal
+use Rattle.loginctl.proofs.replay.run_script.Goals as goal
 
 pub events-preserved : goal.events-preserved
 events-preserved c =
