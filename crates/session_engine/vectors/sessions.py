@@ -1,7 +1,7 @@
 #!/usr/bin/env python3
 """Prints what session_probe is asked (`sessions.py stdin`) and what it has to answer (`sessions.py stdout`): logins of
-accounts that no script of a replay has, stale answers, replies of locks, which inputs answer each ask, want of memory,
-and the most commands.
+accounts that no script of a replay has, account statements and sandboxes, stale answers, replies of locks, which inputs
+answer each ask, want of memory, and the most commands.
 
 What a session sends is spelled by hand from the layouts of the MySQL client/server protocol documentation. Answers to
 nonces and digests are computed here; the stored value of `one` comes from the formula in interop/sha_crypt.py.
@@ -221,6 +221,122 @@ REFUSALS = [
 ]
 
 
+# ## Account statements, in a session of the user `nat` that opened on the account 3 at `localhost`
+
+SYNTAX = b'You have an error in your SQL syntax at place '
+UNKNOWN = error(1047, b'08S01', b'Unknown command')
+SANDBOXED = error(1820, b'HY000', b'You must reset your password using ALTER USER before executing this statement')
+REUSED = error(3638, b'HY000', b'The password contradicts the password history policy')
+KEEPER_FAULT = error(50008, b'HY000', b'The account store failed')
+NO_SALT = b'.' * 20
+
+
+def no_statement(place):
+    return error(1064, b'42000', SYNTAX + str(place).encode())
+
+
+def opened_as(reply):
+    return responded(b'', CACHING) + [
+        ('looked empty 7', 2, b'', check(7, EMPTY)),
+        ('checked', 2, b'', settle(7, EMPTY, True)),
+        (reply, 2, OK, 'read 0'),
+    ]
+
+
+def query(text):
+    return packet(0, b'\x03' + text)
+
+
+def told(text, sent):
+    """The session itself answers."""
+    return [(query(text), 1, sent, 'read 0')]
+
+
+def ended(reply, sent):
+    return [(f'ran {reply}', 1, sent, 'read 0')]
+
+
+def executed(kind, password=b'', salt=NO_SALT):
+    """What is asked about a statement of the account 3: with the salt and the new password, if it has one."""
+    return ' '.join(word for word in (salt.hex(), '3', kind, password.hex()) if word)
+
+
+def prepared(who, statement, text, salt=None):
+    """A statement up to its execution: the account is looked at, a salt is drawn where BY stands, and it is prepared."""
+    steps = [(query(text), 1, b'', f'observe {who}')]
+    if salt is None:
+        return steps + [('looked empty 9', 1, b'', f'prepare 9 {statement}'), ('prepared', 1, b'', f'commit 9 {statement}')]
+    return steps + [
+        ('looked empty 9', 1, b'', 'draw'),
+        (f'drawn {salt.decode()}', 1, b'', f'prepare 9 {statement}'),
+        ('prepared', 1, b'', f'commit 9 {statement}'),
+    ]
+
+
+OWN, NAT, ANN = 'own 3', 'at localhost 6e6174', 'at any 616e6e'
+NEW = executed('alter', b'new', FRESH)
+TO_NEW = b"ALTER USER USER() IDENTIFIED BY 'new'"
+
+
+def once_stale(who, statement):
+    """The account is looked at again, and the salt stays."""
+    return [
+        ('stale', 1, b'', f'renew {who}'),
+        ('looked empty 10', 1, b'', f'prepare 10 {statement}'),
+        ('prepared', 1, b'', f'commit 10 {statement}'),
+    ]
+
+
+def twice_stale(who, statement):
+    return once_stale(who, statement) + [('stale', 1, b'', f'commit locked {statement}')]
+
+
+STATEMENTS = [
+    # No statement at all, and commands that aren't known.
+    opened_as('opened') + told(b'', no_statement(0)) + told(b'ALTER USER', no_statement(10))
+    + told(b"CREATE USER 'a'@'h'", no_statement(16))
+    + told(b"ALTER USER USER() IDENTIFIED WITH caching_sha2_password BY 'new'", no_statement(29)) + [(packet(0, b'\x02'), 1, UNKNOWN, 'read 0')],
+    # What has nothing to prepare is executed at once.
+    opened_as('opened')
+    + [(query(b'FLUSH PRIVILEGES'), 1, b'', 'commit plain 3 flush')] + ended('done', OK)
+    + [(query(b"DROP USER 'ann'"), 1, b'', 'commit plain 3 drop')] + ended('fault', KEEPER_FAULT)
+    + [(query(b"GRANT CREATE USER ON *.* TO 'ann'"), 1, b'', 'commit plain 3 grant')] + ended('done', OK)
+    + [(query(b"REVOKE CREATE USER ON *.* FROM 'ann'"), 1, b'', 'commit plain 3 revoke')] + ended('done', OK)
+    + [(packet(0, b'\x0e'), 1, OK, 'read 0')],
+    # A salt is drawn where BY stands, before an empty password too, and nowhere else.
+    opened_as('opened')
+    + prepared(OWN, NEW, TO_NEW, FRESH) + ended('done', OK)
+    + prepared(ANN, executed('create', b'', FRESH), b"CREATE USER 'ann' IDENTIFIED BY ''", FRESH) + ended('reused', REUSED)
+    + prepared(ANN, executed('create'), b"CREATE USER 'ann'") + ended('done', OK)
+    + prepared(NAT, executed('alter'), b"ALTER USER 'nat'@'localhost' DISCARD OLD PASSWORD") + ended('done', OK)
+    + prepared(NAT, executed('alter'), b"ALTER USER 'nat'@'localhost' IDENTIFIED WITH mysql_native_password") + ended('done', OK),
+    # After a stale answer nothing is asked of the client, and no salt is drawn again.
+    opened_as('opened') + prepared(OWN, NEW, TO_NEW, FRESH) + once_stale(OWN, NEW) + ended('done', OK)
+    + prepared(OWN, NEW, TO_NEW, FRESH) + twice_stale(OWN, NEW) + ended('fault', KEEPER_FAULT)
+    + prepared(ANN, executed('create'), b"CREATE USER 'ann'") + twice_stale(ANN, executed('create')) + ended('done', OK),
+    # A sandbox lets a new password of its own account through, and ends with it.
+    opened_as('sandbox')
+    + [(packet(0, b'\x0e'), 1, OK, 'read 0'), (packet(0, b'\x1f'), 1, OK, 'read 0')]
+    + told(b'FLUSH PRIVILEGES', SANDBOXED) + told(b'nonsense', no_statement(0))
+    + told(b'ALTER USER USER() DISCARD OLD PASSWORD', SANDBOXED)
+    + told(b"ALTER USER 'nat'@'localhost' IDENTIFIED WITH caching_sha2_password", SANDBOXED)
+    + told(b"ALTER USER 'nat'@'%' IDENTIFIED BY 'new'", SANDBOXED)
+    + told(b"ALTER USER 'ann'@'localhost' IDENTIFIED BY 'new'", SANDBOXED)
+    + told(b"CREATE USER 'nat'@'localhost' IDENTIFIED BY 'new'", SANDBOXED)
+    + prepared(NAT, NEW, b"ALTER USER 'nat'@'localhost' IDENTIFIED BY 'new'", FRESH) + ended('reused', REUSED)
+    + told(b'FLUSH PRIVILEGES', SANDBOXED)
+    + prepared(OWN, NEW, TO_NEW, FRESH) + ended('fault', KEEPER_FAULT)
+    + told(b'FLUSH PRIVILEGES', SANDBOXED)
+    + prepared(NAT, NEW, b"ALTER USER 'nat'@'localhost' IDENTIFIED WITH caching_sha2_password BY 'new'", FRESH) + ended('done', OK)
+    + [(query(b'FLUSH PRIVILEGES'), 1, b'', 'commit plain 3 flush')] + ended('done', OK),
+    # Of the own password that expires it anew too.
+    opened_as('sandbox')
+    + prepared(NAT, NEW, b"ALTER USER 'nat'@'localhost' IDENTIFIED BY 'new' PASSWORD EXPIRE", FRESH) + ended('done', OK)
+    + [(query(b'FLUSH PRIVILEGES'), 1, b'', 'commit plain 3 flush')] + ended('done', OK),
+    opened_as('sandbox') + [(packet(0, b'\x01'), 1, b'', 'quit')],
+]
+
+
 def commands():
     """Of a session's commands 1,048,575 are done, and the next one ends it, whatever it is."""
     yield from responded(b'', CACHING) + [
@@ -234,17 +350,20 @@ def commands():
 
 # ## Which inputs answer: a first nonce, a packet, a fault of framing, the peer's end, a fault of the link, a nonce of the
 # alphabet and another, looks at nobody, at an account with two labels and with three, what was checked, what was stale,
-# a reply
+# a reply; a statement that was stale, a reply to a statement
 
-START = 'y------------'
-READ = '-yyyy--------'
-DRAW = '-----y-------'
-LOOK = '-------yy----'
-CHECK = '----------y--'
-SETTLE = '-----------yy'
-REPLY = '------------y'
-ENDED = '-------------'
-ANYTHING = 'yyyyyyyyyyyyy'
+START = 'y--------------'
+READ = '-yyyy----------'
+DRAW = '-----y---------'
+LOOK = '-------yy------'
+CHECK = '----------y----'
+SETTLE = '-----------yy--'
+REPLY = '------------y--'
+PREPARE = '---------------'
+COMMIT = '-------------yy'
+RUN = '--------------y'
+ENDED = '---------------'
+ANYTHING = 'yyyyyyyyyyyyyyy'
 
 
 def answering():
@@ -261,6 +380,12 @@ def answering():
         (('checked', 6, b'', settle(8, PASSWORD, True)), SETTLE),
         (('stale', 6, b'', f'settle locked {FLAGS} 6e6174 {PASSWORD}'), REPLY),
         (('opened', 6, OK, 'read 0'), READ),
+    ]
+    statement = prepared(OWN, NEW, TO_NEW, FRESH) + twice_stale(OWN, NEW) + ended('done', OK)
+    rows += zip(statement, (LOOK, DRAW, PREPARE, COMMIT, LOOK, PREPARE, COMMIT, RUN, READ))
+    rows += [
+        ((query(b'FLUSH PRIVILEGES'), 1, b'', 'commit plain 3 flush'), RUN),
+        (('ran done', 1, OK, 'read 0'), READ),
         ((packet(0, b'\x01'), 1, b'', 'quit'), ENDED),
     ]
     for step, marks in rows:
@@ -282,7 +407,7 @@ def without_memory():
 
 
 def steps():
-    for group in (BY_A_DIGEST, STALE, IN_THE_CLEAR, CHANGED, REFUSALS):
+    for group in (BY_A_DIGEST, STALE, IN_THE_CLEAR, CHANGED, REFUSALS, STATEMENTS):
         for case in group:
             yield from case
     yield from commands()

@@ -2,16 +2,17 @@
 
 use crate::given::packet;
 use crate::looks::{NONCE, Shown, look};
-use account_history::Reply;
+use account_history::{Reply, StmtReply};
 use factor_chain::{Evidence, Evidences, check};
 use lg_base::{Items, Memory};
 use packet_frame::FrameFault;
 use session_engine::Session;
 use session_talk::Input;
 use std::alloc::Global;
+use stmt_rules::Statement;
 
 /// How many inputs are tried.
-pub const INPUTS: usize = 13;
+pub const INPUTS: usize = 15;
 
 /// An input of each kind: a nonce of the alphabet and another one, looks with no account, with two labels and with
 /// three among them.
@@ -28,6 +29,8 @@ fn every_input(alloc: Global) -> Result<Items<Input>, Memory> {
     inputs.push(Input::Looked(look(alloc, Shown::Labelled(2), 7)?))?;
     inputs.push(Input::Looked(look(alloc, Shown::Labelled(3), 7)?))?;
     push_settling(alloc, &mut inputs)?;
+    inputs.push(Input::StaleStatement(Statement::Flush))?;
+    inputs.push(Input::Ran(StmtReply::Done))?;
     Ok(inputs)
 }
 

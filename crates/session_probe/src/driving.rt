@@ -8,12 +8,15 @@ ghost use Rattle.std.specs.Prelude.{◌≡◌, IfOk, IfSome, not};
 
 use crate::given::plain_input;
 use crate::looks::NONCE;
-use factor_chain::check;
+use account_history::{Prepared, prepare};
+use factor_chain::{Look, check};
 use lg_base::Memory;
 use session_engine::Session;
 use session_talk::{Action, Ask, Input};
 use std::alloc::Global;
 use std::mem;
+use stmt_rules::Statement;
+use world_table::statements::{is_preparable, is_salt, is_written};
 
 /// A session, and what it did last.
 #[derive(Drop)]
@@ -49,7 +52,50 @@ fn stale(ask: Ask) -> Option<Input>
 {
     match ask {
         Ask::Settle { checked, flags: _ } => Some(Input::Stale(checked.into_evidences())),
+        Ask::Commit { prepared, actor: _ } => {
+            Some(Input::StaleStatement(prepared.into_statement()))
+        }
         _ => None,
+    }
+}
+
+/// A statement that was asked about, prepared; none where no session may ask about it so.
+fn prepare_statement(
+    alloc: Global,
+    look: Look,
+    statement: Statement,
+    salt: [u8; 20],
+    actor: u64,
+) -> Result<Option<Prepared>, Memory>
+    ensures { IfOk result (λ made. IfSome made (λ p. p ≡ record { look = look; statement = statement; salt = salt; actor = actor })) }
+{
+    if !is_preparable(&statement) {
+        return Ok(None);
+    }
+    if !is_written(&statement) {
+        return Ok(None);
+    }
+    if !is_salt(&salt) {
+        return Ok(None);
+    }
+    Ok(Some(prepare(alloc, look, statement, &salt, actor)?))
+}
+
+/// What was asked about, prepared.
+fn prepared(alloc: Global, ask: Ask) -> Result<Option<Input>, Memory>
+    ensures { IfOk result (λ input. IfSome input (IsFitting (Own ask))) }
+{
+    match ask {
+        Ask::Prepare {
+            look,
+            statement,
+            salt,
+            actor,
+        } => match prepare_statement(alloc, look, statement, salt, actor)? {
+            Some(made) => Ok(Some(Input::Prepared(made))),
+            None => Ok(None),
+        },
+        _ => Ok(None),
     }
 }
 
@@ -82,6 +128,7 @@ fn input_of(alloc: Global, ask: Ask, words: &[&str]) -> Result<Option<Input>, Me
     match words {
         ["checked"] => Ok(checked(ask)),
         ["stale"] => Ok(stale(ask)),
+        ["prepared"] => prepared(alloc, ask),
         _ => other(alloc, ask, words),
     }
 }
@@ -110,13 +157,24 @@ fn take(alloc: Global, driven: Driven, words: &[&str]) -> State {
     }
 }
 
+/// Where a session stands that is given the answer to its last ask, unless it has failed.
+fn answered(alloc: Global, state: State, words: &[&str]) -> State {
+    match state {
+        State::Absent => State::Absent,
+        State::At(driven) => take(alloc, driven, words),
+        State::Failed(session) => State::Failed(session),
+    }
+}
+
+/// A state takes the place of the one before.
+pub fn put(state: &mut State, after: State) {
+    drop(mem::replace(state, after));
+}
+
 /// The session is given the answer to its last ask, unless it has failed.
 pub fn answer(alloc: Global, state: &mut State, words: &[&str]) {
-    let state_after = match mem::replace(state, State::Absent) {
-        State::At(driven) => take(alloc, driven, words),
-        other => other,
-    };
-    *state = state_after;
+    let before = mem::replace(state, State::Absent);
+    put(state, answered(alloc, before, words));
 }
 
 /// Gives a session an input that gives nothing back.

@@ -1,8 +1,8 @@
 //! The inputs of lines that give nothing back.
 
 use crate::looks::{look, shown_of};
-use account_history::Reply;
-use lg_base::{Bytes, Host, Memory};
+use account_history::{Reply, StmtReply};
+use lg_base::{Bytes, Code, Host, Memory};
 use login_lock::{LockRule, LockTime};
 use packet_frame::{FrameFault, Packet};
 use session_talk::Input;
@@ -33,6 +33,10 @@ fn reply_of(words: &[&str]) -> Option<Reply> {
             account: 3,
             host: Host::Localhost,
         }),
+        ["sandbox"] => Some(Reply::Sandbox {
+            account: 3,
+            host: Host::Localhost,
+        }),
         ["denied"] => Some(Reply::Denied {
             using_password: true,
         }),
@@ -44,6 +48,16 @@ fn reply_of(words: &[&str]) -> Option<Reply> {
             rule: rule_of(days),
             left: left.parse::<u32>().unwrap_or(0),
         }),
+        _ => None,
+    }
+}
+
+/// The reply to a statement.
+fn statement_reply_of(word: &str) -> Option<StmtReply> {
+    match word {
+        "done" => Some(StmtReply::Done),
+        "reused" => Some(StmtReply::Refused(Code::Reused)),
+        "fault" => Some(StmtReply::Refused(Code::KeeperFault)),
         _ => None,
     }
 }
@@ -68,6 +82,7 @@ pub fn plain_input(alloc: Global, words: &[&str]) -> Result<Option<Input>, Memor
         ["packet", id, text] => packet_input(alloc, id, text),
         ["drawn", text] => Ok(<[u8; 20]>::try_from(text.as_bytes()).ok().map(Input::Drawn)),
         ["looked", shown, stamp] => look_input(alloc, shown, stamp),
+        ["ran", reply] => Ok(statement_reply_of(reply).map(Input::Ran)),
         ["memory"] => Ok(Some(Input::Frame(FrameFault::Memory))),
         _ => Ok(reply_of(words).map(Input::Settled)),
     }

@@ -8,8 +8,9 @@
 //! | `packet ID HEX` | a packet with this sequence id and payload |
 //! | `drawn TEXT` | a nonce of 20 bytes |
 //! | `looked ACCOUNT STAMP` | a look that shows such an account |
-//! | `checked`, `stale` | what was asked about, checked, or not settled |
-//! | `opened`, `denied`, `blank`, `locked`, `blocked DAYS LEFT` | the reply to an attempt |
+//! | `checked`, `prepared`, `stale` | what was asked about, checked, prepared, or neither settled nor executed |
+//! | `opened`, `sandbox`, `denied`, `blank`, `locked`, `blocked DAYS LEFT` | the reply to an attempt |
+//! | `ran done`, `ran reused`, `ran fault` | the reply to a statement |
 //! | `memory` | no memory for a packet |
 //! | `answers` | changes nothing: which inputs answer the session |
 //! | `nonces` | the same of nonces that begin or end with each byte |
@@ -22,7 +23,7 @@ mod given;
 mod looks;
 mod printing;
 
-use driving::{State, answer, begin};
+use driving::{State, answer, begin, put};
 use lg_base::Memory;
 use printing::print_state;
 use std::alloc::Global;
@@ -97,12 +98,15 @@ fn print_commands(rt: &HostRuntime, state: &mut State, count: u32) -> io::Result
     println!(rt; "ok {done} errors {unknown}")
 }
 
+/// A new session takes the place of the one before.
+fn begin_anew(rt: &HostRuntime, state: &mut State) -> io::Result<()> {
+    put(state, begin(rt.alloc()));
+    print_state(rt, state)
+}
+
 fn follow(rt: &HostRuntime, state: &mut State, words: &[&str]) -> io::Result<()> {
     match words {
-        ["new"] => {
-            *state = begin(rt.alloc());
-            print_state(rt, state)
-        }
+        ["new"] => begin_anew(rt, state),
         ["answers"] => print_inputs(rt, state),
         ["nonces"] => print_nonces(rt, state),
         ["commands", count] => print_commands(rt, state, count.parse::<u32>().unwrap_or(0)),

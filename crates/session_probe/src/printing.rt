@@ -3,9 +3,12 @@
 use crate::answering::INPUTS;
 use crate::driving::State;
 use account_history::Who;
-use factor_chain::{Evidence, Evidences};
+use account_history::setting::new_password;
+use factor_chain::{Checked, Evidence, Evidences};
+use lg_base::{Bytes, Host};
 use session_talk::{Action, Ask, SessionEnd};
 use std::io;
+use stmt_rules::Statement;
 
 /// Whether an action sends an error.
 pub fn is_error(action: &Action) -> bool {
@@ -54,8 +57,40 @@ fn print_evidences(rt: &HostRuntime, evidences: &Evidences) -> io::Result<()> {
 fn print_who(rt: &HostRuntime, who: &Who) -> io::Result<()> {
     match who {
         Who::Login(user) => print_hex(rt, user.as_slice()),
-        _ => print!(rt; " other"),
+        Who::Account(name) => {
+            print!(rt;
+                " at {}",
+                if name.host == Host::Any {
+                    "any"
+                } else {
+                    "localhost"
+                }
+            )?;
+            print_hex(rt, name.user.as_slice())
+        }
+        Who::Own(account) => print!(rt; " own {account}"),
     }
+}
+
+fn word_of(statement: &Statement) -> &'static str {
+    match statement {
+        Statement::Create { .. } => "create",
+        Statement::Alter { .. } => "alter",
+        Statement::Drop { .. } => "drop",
+        Statement::Flush => "flush",
+        Statement::Grant { .. } => "grant",
+        Statement::Revoke { .. } => "revoke",
+    }
+}
+
+/// The account that asks for a statement, the kind of the statement, and its new password, unless that is empty.
+fn print_statement(rt: &HostRuntime, statement: &Statement, actor: u64) -> io::Result<()> {
+    print!(rt; " {actor} {}", word_of(statement))?;
+    let password = new_password(statement);
+    if password.is_empty() {
+        return Ok(());
+    }
+    print_hex(rt, password)
 }
 
 fn print_end(rt: &HostRuntime, end: SessionEnd) -> io::Result<()> {
@@ -70,40 +105,87 @@ fn print_end(rt: &HostRuntime, end: SessionEnd) -> io::Result<()> {
     }
 }
 
+fn print_settling(rt: &HostRuntime, checked: &Checked, flags: u32) -> io::Result<()> {
+    print!(rt; "settle {} {flags} {}", checked.stamp(), checked.all_fit())?;
+    print_evidences(rt, checked.evidences())
+}
+
+fn print_locked(
+    rt: &HostRuntime,
+    user: &Bytes,
+    evidences: &Evidences,
+    flags: u32,
+) -> io::Result<()> {
+    print!(rt; "settle locked {flags}")?;
+    print_hex(rt, user.as_slice())?;
+    print_evidences(rt, evidences)
+}
+
+fn print_salt(
+    rt: &HostRuntime,
+    salt: &[u8; 20],
+    statement: &Statement,
+    actor: u64,
+) -> io::Result<()> {
+    print_hex(rt, salt)?;
+    print_statement(rt, statement, actor)
+}
+
+/// What is asked about a statement.
+fn print_statement_ask(rt: &HostRuntime, ask: &Ask) -> io::Result<()> {
+    match ask {
+        Ask::Prepare {
+            look,
+            statement,
+            salt,
+            actor,
+        } => {
+            print!(rt; "prepare {}", look.stamp)?;
+            print_salt(rt, salt, statement, *actor)
+        }
+        Ask::Commit { prepared, actor } => {
+            print!(rt; "commit {}", prepared.look().stamp)?;
+            print_salt(rt, prepared.salt(), prepared.statement(), *actor)
+        }
+        Ask::CommitLocked {
+            statement,
+            salt,
+            actor,
+        } => {
+            print!(rt; "commit locked")?;
+            print_salt(rt, salt, statement, *actor)
+        }
+        Ask::CommitPlain { statement, actor } => {
+            print!(rt; "commit plain")?;
+            print_statement(rt, statement, *actor)
+        }
+        _ => Ok(()),
+    }
+}
+
+fn print_look_at(rt: &HostRuntime, word: &str, who: &Who) -> io::Result<()> {
+    print!(rt; "{word}")?;
+    print_who(rt, who)
+}
+
 fn print_ask(rt: &HostRuntime, ask: &Ask) -> io::Result<()> {
     match ask {
         Ask::Read { want } => print!(rt; "read {want}"),
         Ask::Draw => print!(rt; "draw"),
-        Ask::Observe(who) => {
-            print!(rt; "observe")?;
-            print_who(rt, who)
-        }
-        Ask::Renew(who) => {
-            print!(rt; "renew")?;
-            print_who(rt, who)
-        }
+        Ask::Observe(who) => print_look_at(rt, "observe", who),
+        Ask::Renew(who) => print_look_at(rt, "renew", who),
         Ask::Check { look, evidences } => {
             print!(rt; "check {}", look.stamp)?;
             print_evidences(rt, evidences)
         }
-        Ask::Settle { checked, flags } => {
-            print!(rt; "settle {} {flags} {}", checked.stamp(), checked.all_fit())?;
-            print_evidences(rt, checked.evidences())
-        }
+        Ask::Settle { checked, flags } => print_settling(rt, checked, *flags),
         Ask::SettleLocked {
             user,
             evidences,
             flags,
-        } => {
-            print!(rt; "settle locked {flags}")?;
-            print_hex(rt, user.as_slice())?;
-            print_evidences(rt, evidences)
-        }
-        Ask::Prepare { .. } => print!(rt; "prepare"),
-        Ask::Commit { .. } => print!(rt; "commit"),
-        Ask::CommitLocked { .. } => print!(rt; "commit locked"),
-        Ask::CommitPlain { .. } => print!(rt; "commit plain"),
+        } => print_locked(rt, user, evidences, *flags),
         Ask::Ended(end) => print_end(rt, *end),
+        _ => print_statement_ask(rt, ask),
     }
 }
 
