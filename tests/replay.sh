@@ -88,8 +88,14 @@ prints input-that-is-closed 4 "$expected" replay <&-
 judge output-that-is-full $? 5 "$expected"
 "$program" frames <"$runs/frames-empty.script" >/dev/full
 judge frames-with-a-full-output $? 5 "$expected"
+"$program" replay --generate 7 </dev/null >/dev/full
+judge large-run-with-a-full-output $? 5 "$expected"
 "$program" login --socket "$folder/none" --user nat </dev/null >/dev/full
 judge login-with-a-full-output $? 5 "$expected"
+
+# A large run reads no input.
+prints large-run-without-input 0 "$runs/generate-7.out" replay --generate 7 <&-
+prints large-run-with-input-that-fails 0 "$runs/generate-7.out" replay --generate 7 <"$folder"
 
 # Prints a header and that many zero bytes: piece LENGTH ID, the length in six hexadecimal digits, low first.
 piece() {

@@ -45,17 +45,6 @@ const TRIALS: &[Trial] = &[
     (&["replay"], b"end\n", [3, 2, 1], 9, 0, b"end 0\n"),
     (&["replay"], b"end\n", [0, 1, 0], 9, 5, b""),
     (&["replay"], b"end\n", [0, 0, 0], 5, 5, b""),
-    // A large run reads nothing and writes once.
-    (
-        &["replay", "--generate", "7"],
-        b"",
-        [1, 2, 1],
-        50,
-        0,
-        b"sessions 1000 entries 2033 opened 714 refused 286\n",
-    ),
-    (&["replay", "--generate", "7"], b"", [0, 1, 0], 50, 5, b""),
-    (&["replay", "--generate", "7"], b"", [0, 0, 0], 49, 5, b""),
     (
         &["replay", "--generate", "4294967296"],
         b"",

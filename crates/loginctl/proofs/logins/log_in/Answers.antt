@@ -1,4 +1,4 @@
-use Rattle.std.proofs.Common.{refl, arith}
+use Rattle.std.proofs.Common.{refl}
 use Rattle.loginctl.specs.LoginWords.{choice_of}
 use Rattle.loginctl.specs.Logins.{undialled, unmade}
 use Rattle.loginctl.specs.Outsides.{LinkState}
