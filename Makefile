@@ -28,6 +28,8 @@ bench:
 	@bench/statements
 	@cd crates/turn_probe && rt run < stdin > /dev/null
 	@bench/turns
+	@cd crates/shared_probe && rt run < stdin > /dev/null
+	@bench/shared
 	@cd crates/keeper_probe && rt run < stdin > /dev/null
 	@cd crates/socket_probe && rt run < stdin > /dev/null
 	@bench/edge

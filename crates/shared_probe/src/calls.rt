@@ -20,6 +20,7 @@ use native_scramble::respond;
 use shared_accounts::{Committed, Late, Seat, Settled, SharedAccounts};
 use std::alloc::Global;
 use std::sync::Wait;
+use std::sync::atomic::{AtomicU64, Ordering};
 use stmt_rules::{Statement, Target};
 use stmt_syntax::{SyntaxFault, read};
 
@@ -37,11 +38,14 @@ const SETTINGS: Settings = Settings {
     reuse: 0,
 };
 
-/// What an attempt was answered, and the last stamp of the user that was told before.
+/// What an attempt was answered.
 #[derive(Drop)]
 pub struct Tried {
     pub reply: Reply,
+    /// The last stamp of the user that was told before.
     pub stamp: u64,
+    /// The number of the newest password that was known to be set when the attempt was last about to be settled.
+    pub set: u64,
 }
 
 /// Shared accounts of `'root'@'localhost'` alone, without a password.
@@ -75,12 +79,13 @@ pub fn try_password<K: Keeper + Drop, R: Wait>(
     user: &[u8],
     password: &[u8],
     reading: u64,
+    newest: &AtomicU64,
 ) -> Option<Tried>
     requires own { Sits shared.now seat.old }
     ensures own { Sits shared.now seat.new }
 {
     let evidences = native(alloc, password).ok()?;
-    attempt(rt, alloc, shared, seat, user, evidences, reading)
+    attempt(rt, alloc, shared, seat, user, evidences, reading, newest)
 }
 
 /// The evidence of no password.
@@ -96,7 +101,7 @@ pub fn login_of(alloc: Global, user: &[u8]) -> Result<Who, Memory>
 }
 
 /// One attempt to log in. The evidence is checked on a look; after the first stale answer on another, after the second in
-/// the turn. `None` where memory or the book's turns are at their end.
+/// the turn. `newest` has the number of the newest password that is known to be set. `None` where memory or the book's turns are at their end.
 pub fn attempt<K: Keeper + Drop, R: Wait>(
     rt: &R,
     alloc: Global,
@@ -105,18 +110,26 @@ pub fn attempt<K: Keeper + Drop, R: Wait>(
     user: &[u8],
     evidences: Evidences,
     reading: u64,
+    newest: &AtomicU64,
 ) -> Option<Tried>
     requires own { Sits shared.now seat.old }
     ensures own { Sits shared.now seat.new }
 {
-    let who = login_of(alloc, user).ok()?;
-    let (look, ticket) = shared.observe(rt, alloc, seat, &who).ok()?;
+    let Ok(who) = login_of(alloc, user) else {
+        return None;
+    };
+    let Ok((look, ticket)) = shared.observe(rt, alloc, seat, &who) else {
+        return None;
+    };
     let stamp = ticket.stamp();
     let checked = check(look, evidences);
+    let set = newest.load(Ordering::SeqCst);
     match shared.settle(rt, seat, ticket, checked, FLAGS, reading) {
-        Settled::Done(reply) => Some(Tried { reply, stamp }),
+        Settled::Done(reply) => Some(Tried { reply, stamp, set }),
         Settled::Stale(late, evidences) => {
-            attempt_again(rt, alloc, shared, seat, user, late, evidences, reading)
+            attempt_again(
+                rt, alloc, shared, seat, user, late, evidences, reading, newest,
+            )
         }
         Settled::BookEnd => None,
     }
@@ -132,19 +145,25 @@ pub fn attempt_again<K: Keeper + Drop, R: Wait>(
     late: Late,
     evidences: Evidences,
     reading: u64,
+    newest: &AtomicU64,
 ) -> Option<Tried>
     requires own { Sits shared.now seat.old }
     requires late { (late.number ≡ 1) × (late.who ≡ Login user.now) }
     ensures own { Sits shared.now seat.new }
 {
-    let who = login_of(alloc, user).ok()?;
-    let (look, ticket) = shared.renew(rt, alloc, seat, late, &who).ok()?;
+    let Ok(who) = login_of(alloc, user) else {
+        return None;
+    };
+    let Ok((look, ticket)) = shared.renew(rt, alloc, seat, late, &who) else {
+        return None;
+    };
     let stamp = ticket.stamp();
     let checked = check(look, evidences);
+    let set = newest.load(Ordering::SeqCst);
     match shared.settle(rt, seat, ticket, checked, FLAGS, reading) {
-        Settled::Done(reply) => Some(Tried { reply, stamp }),
+        Settled::Done(reply) => Some(Tried { reply, stamp, set }),
         Settled::Stale(late, evidences) => {
-            attempt_locked(rt, shared, seat, user, late, evidences, reading)
+            attempt_locked(rt, shared, seat, user, late, evidences, reading, newest)
         }
         Settled::BookEnd => None,
     }
@@ -159,14 +178,16 @@ pub fn attempt_locked<K: Keeper + Drop, R: Wait>(
     late: Late,
     evidences: Evidences,
     reading: u64,
+    newest: &AtomicU64,
 ) -> Option<Tried>
     requires own { Sits shared.now seat.old }
     requires late { (late.number ≡ 2) × (late.who ≡ Login user.now) }
     ensures own { Sits shared.now seat.new }
 {
     let stamp = late.stamp();
+    let set = newest.load(Ordering::SeqCst);
     match shared.settle_locked(rt, seat, late, user, evidences, FLAGS, reading) {
-        Settled::Done(reply) => Some(Tried { reply, stamp }),
+        Settled::Done(reply) => Some(Tried { reply, stamp, set }),
         Settled::Stale(_late, _evidences) => None,
         Settled::BookEnd => None,
     }

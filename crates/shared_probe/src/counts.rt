@@ -56,12 +56,13 @@ impl Counts {
         counts
     }
 
-    /// An attempt with the password of this number, which was retired where the stamp that was told before is greater.
+    /// An attempt with the password of this number. It was retired where the stamp that was told before is greater, or a newer
+    /// password was known to be set.
     pub fn with_number(self, tried: &Option<Tried>, number: u64) -> Counts {
         let mut counts = self;
         if let Some(tried) = tried {
             let is_open = matches!(tried.reply, Reply::Opened { .. });
-            if is_open && number < tried.stamp {
+            if is_open && number < tried.stamp.max(tried.set) {
                 counts.retired = counts.retired.wrapping_add(1);
             }
         }

@@ -11,6 +11,7 @@ use lg_outside::Keeper;
 use shared_accounts::{Seat, SharedAccounts};
 use std::alloc::Global;
 use std::sync::Wait;
+use std::sync::atomic::{AtomicU64, Ordering};
 use std::thread;
 use std::thread::Threads;
 
@@ -35,12 +36,13 @@ fn fail<K: Keeper + Drop, R: Wait>(
     shared: &SharedAccounts<K>,
     mut seat: Seat<K>,
     attempts: u64,
+    newest: &AtomicU64,
 ) -> Counts
     requires own { Sits shared.now seat }
 {
     let mut counts = Counts::none();
     for reading in 0..attempts {
-        let tried = try_password(rt, alloc, shared, &mut seat, ANN, b"wrong", reading);
+        let tried = try_password(rt, alloc, shared, &mut seat, ANN, b"wrong", reading, newest);
         counts = counts.with(&tried);
     }
     counts
@@ -51,12 +53,13 @@ fn open_one<K: Keeper + Drop, R: Wait>(
     alloc: Global,
     shared: &SharedAccounts<K>,
     seat: &mut Seat<K>,
+    newest: &AtomicU64,
 ) -> Option<Tried>
     requires own { Sits shared.now seat.old }
     ensures own { Sits shared.now seat.new }
 {
     let evidences = no_password(alloc).ok()?;
-    attempt(rt, alloc, shared, seat, ROOT, evidences, 0)
+    attempt(rt, alloc, shared, seat, ROOT, evidences, 0, newest)
 }
 
 fn open<K: Keeper + Drop, R: Wait>(
@@ -65,12 +68,13 @@ fn open<K: Keeper + Drop, R: Wait>(
     shared: &SharedAccounts<K>,
     mut seat: Seat<K>,
     attempts: u64,
+    newest: &AtomicU64,
 ) -> Counts
     requires own { Sits shared.now seat }
 {
     let mut counts = Counts::none();
     for _ in 0..attempts {
-        let tried = open_one(rt, alloc, shared, &mut seat);
+        let tried = open_one(rt, alloc, shared, &mut seat, newest);
         counts = counts.with(&tried);
     }
     counts
@@ -91,20 +95,25 @@ fn change_to<K: Keeper + Drop, R: Wait>(
     perform(rt, alloc, shared, seat, text.as_str().as_bytes())
 }
 
-/// Gives `ann` the passwords 2, 3 and so on.
+/// Gives `ann` the passwords 2, 3 and so on, and tells in `newest` which is set.
 fn change<K: Keeper + Drop, R: Wait>(
     rt: &R,
     alloc: Global,
     shared: &SharedAccounts<K>,
     mut seat: Seat<K>,
     changes: u64,
+    newest: &AtomicU64,
 ) -> Counts
     requires own { Sits shared.now seat }
 {
     let mut counts = Counts::none();
     for number in 0..changes {
-        let done = change_to(rt, alloc, shared, &mut seat, number.wrapping_add(2));
+        let next = number.wrapping_add(2);
+        let done = change_to(rt, alloc, shared, &mut seat, next);
         counts = counts.with_change(done.is_some());
+        if done.is_some() {
+            newest.store(next, Ordering::SeqCst);
+        }
     }
     counts
 }
@@ -116,6 +125,7 @@ fn try_number<K: Keeper + Drop, R: Wait>(
     shared: &SharedAccounts<K>,
     seat: &mut Seat<K>,
     number: u64,
+    newest: &AtomicU64,
 ) -> Option<Tried>
     requires own { Sits shared.now seat.old }
     ensures own { Sits shared.now seat.new }
@@ -129,6 +139,7 @@ fn try_number<K: Keeper + Drop, R: Wait>(
         ANN,
         password.as_str().as_bytes(),
         0,
+        newest,
     )
 }
 
@@ -140,16 +151,17 @@ fn log_in<K: Keeper + Drop, R: Wait>(
     shared: &SharedAccounts<K>,
     mut seat: Seat<K>,
     attempts: u64,
+    newest: &AtomicU64,
 ) -> Counts
     requires own { Sits shared.now seat }
 {
     let mut counts = Counts::none();
-    let mut newest = 1;
+    let mut known = 1;
     for turn in 0..attempts {
-        let number = u64::saturating_sub(newest, turn % 2);
-        let tried = try_number(rt, alloc, shared, &mut seat, number);
+        let number = u64::saturating_sub(known, turn % 2);
+        let tried = try_number(rt, alloc, shared, &mut seat, number, newest);
         counts = counts.with(&tried).with_number(&tried, number);
-        newest = stamp_of(&tried, newest);
+        known = stamp_of(&tried, known);
     }
     counts
 }
@@ -169,17 +181,18 @@ fn do_work<K: Keeper + Drop, R: Wait>(
     seat: Seat<K>,
     work: Work,
     number: u64,
+    newest: &AtomicU64,
 ) -> Counts
     requires own { Sits shared.now seat }
 {
     match work {
-        Work::Fail { attempts } => fail(rt, alloc, shared, seat, attempts),
-        Work::Open { attempts } => open(rt, alloc, shared, seat, attempts),
+        Work::Fail { attempts } => fail(rt, alloc, shared, seat, attempts, newest),
+        Work::Open { attempts } => open(rt, alloc, shared, seat, attempts, newest),
         Work::Change { changes, attempts } => {
             if number == 0 {
-                return change(rt, alloc, shared, seat, changes);
+                return change(rt, alloc, shared, seat, changes, newest);
             }
-            log_in(rt, alloc, shared, seat, attempts)
+            log_in(rt, alloc, shared, seat, attempts, newest)
         }
     }
 }
@@ -193,11 +206,12 @@ fn in_threads<K: Keeper + Drop + Send, R: Threads + Wait + Sync>(
     work: Work,
     threads: u64,
     number: u64,
+    newest: &AtomicU64,
 ) -> Counts
     requires own { Sits shared.now seat }
 {
     if threads <= 1 {
-        return do_work(rt, alloc, shared, seat, work, number);
+        return do_work(rt, alloc, shared, seat, work, number, newest);
     }
     let other = shared.split(&mut seat);
     let low = threads / 2;
@@ -205,10 +219,10 @@ fn in_threads<K: Keeper + Drop + Send, R: Threads + Wait + Sync>(
     let next = number.wrapping_add(low);
     let front = move ||
         requires { IsSync R.row × IsSend K.row × (0 < low) × Sits shared.now seat }
-    { in_threads(rt, alloc, shared, seat, work, low, number) };
+    { in_threads(rt, alloc, shared, seat, work, low, number, newest) };
     let back = move ||
         requires { IsSync R.row × IsSend K.row × (0 < high) × Sits shared.now other }
-    { in_threads(rt, alloc, shared, other, work, high, next) };
+    { in_threads(rt, alloc, shared, other, work, high, next, newest) };
     let (one, two) = thread::join(rt, front, back);
     one.plus(two)
 }
@@ -234,6 +248,7 @@ pub fn fail_together<R: Threads + Wait + Sync>(
         b"CREATE USER 'ann'@'localhost' IDENTIFIED WITH mysql_native_password BY 'p1' FAILED_LOGIN_ATTEMPTS 50 PASSWORD_LOCK_TIME 1";
     perform(rt, alloc, &shared, &mut seat, created.as_slice())?;
     let other = shared.split(&mut seat);
+    let newest = AtomicU64::new(1);
     let counts = in_threads(
         rt,
         alloc,
@@ -242,9 +257,10 @@ pub fn fail_together<R: Threads + Wait + Sync>(
         Work::Fail { attempts },
         threads,
         0,
+        &newest,
     );
-    let then = try_password(rt, alloc, &shared, &mut seat, ANN, b"p1", 86_411)?.reply;
-    let last = try_password(rt, alloc, &shared, &mut seat, ANN, b"p1", 86_450)?.reply;
+    let then = try_password(rt, alloc, &shared, &mut seat, ANN, b"p1", 86_411, &newest)?.reply;
+    let last = try_password(rt, alloc, &shared, &mut seat, ANN, b"p1", 86_450, &newest)?.reply;
     Some(Crowd { counts, then, last })
 }
 
@@ -261,6 +277,7 @@ pub fn change_together<R: Threads + Wait + Sync>(
     let created = b"CREATE USER 'ann'@'localhost' IDENTIFIED WITH mysql_native_password BY 'p1'";
     perform(rt, alloc, &shared, &mut seat, created.as_slice())?;
     let other = shared.split(&mut seat);
+    let newest = AtomicU64::new(1);
     let counts = in_threads(
         rt,
         alloc,
@@ -269,10 +286,11 @@ pub fn change_together<R: Threads + Wait + Sync>(
         Work::Change { changes, attempts },
         threads,
         0,
+        &newest,
     );
-    let newest = changes.wrapping_add(1);
-    let then = try_number(rt, alloc, &shared, &mut seat, newest)?.reply;
-    let last = try_number(rt, alloc, &shared, &mut seat, changes)?.reply;
+    let last_number = changes.wrapping_add(1);
+    let then = try_number(rt, alloc, &shared, &mut seat, last_number, &newest)?.reply;
+    let last = try_number(rt, alloc, &shared, &mut seat, changes, &newest)?.reply;
     Some(Crowd { counts, then, last })
 }
 
@@ -284,6 +302,7 @@ pub fn open_together<R: Threads + Wait + Sync>(
     attempts: u64,
 ) -> Option<Counts> {
     let (shared, seat) = begin(alloc).ok()?;
+    let newest = AtomicU64::new(0);
     Some(in_threads(
         rt,
         alloc,
@@ -292,5 +311,6 @@ pub fn open_together<R: Threads + Wait + Sync>(
         Work::Open { attempts },
         threads,
         0,
+        &newest,
     ))
 }

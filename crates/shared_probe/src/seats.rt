@@ -11,6 +11,7 @@ use lg_outside::Keeper;
 use shared_accounts::{Late, Seat, Settled, SharedAccounts};
 use std::alloc::Global;
 use std::sync::Wait;
+use std::sync::atomic::AtomicU64;
 
 const ANN: &[u8] = b"ann";
 
@@ -98,7 +99,8 @@ fn overtaken_again<K: Keeper + Drop, R: Wait>(
         Settled::Done(_reply) => None,
         Settled::Stale(late, evidences) => {
             let number = late.number();
-            let tried = attempt_locked(rt, shared, one, user, late, evidences, 0)?;
+            let set = AtomicU64::new(0);
+            let tried = attempt_locked(rt, shared, one, user, late, evidences, 0, &set)?;
             Some((number, tried))
         }
         Settled::BookEnd => None,
@@ -130,7 +132,8 @@ pub fn stale_twice<R: Wait>(rt: &R, alloc: Global) -> Option<Overtaken> {
             let (second, tried) = overtaken_again(
                 rt, alloc, &shared, &mut one, &mut two, ANN, late, evidences,
             )?;
-            let next = try_password(rt, alloc, &shared, &mut one, ANN, b"wrong", 0)?.reply;
+            let set = AtomicU64::new(0);
+            let next = try_password(rt, alloc, &shared, &mut one, ANN, b"wrong", 0, &set)?.reply;
             shared.meet(&mut one, two);
             let is_closed = shared.close(&mut one).is_some();
             Some(Overtaken {
