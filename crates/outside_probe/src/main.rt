@@ -60,11 +60,13 @@ pub fn numbers(alloc: Global, text: &str) -> Result<Items<u64>, Fault> {
     Ok(numbers)
 }
 
-/// Two sessions pass a gate in two threads.
-fn pass_gate<R: Threads>(rt: &R) {
+/// Whether two sessions met at a gate that they passed in two threads, and hadn't met before.
+fn pass_gate<R: Threads>(rt: &R) -> bool {
     NoGate.checking(1);
     let gate = PairGate::new();
+    let before = gate.met();
     thread::join(rt, || gate.checking(1), || gate.checking(2));
+    !before && gate.met()
 }
 
 /// Answers a line.
@@ -87,8 +89,8 @@ fn main(rt: HostRuntime) -> io::Result<()> {
     for line in rt.lines(rt.alloc()) {
         let line = line?;
         if line.as_str() == "gate" {
-            pass_gate(&rt);
-            println!(rt; "passed")?;
+            let word = if pass_gate(&rt) { "met" } else { "missed" };
+            println!(rt; "{}", word)?;
             continue;
         }
         match answer(&rt, line.as_str()) {

@@ -1,6 +1,6 @@
 //! Gates, at which sessions can be made to wait for each other before they check a password. They decide nothing.
 
-use std::sync::atomic::{AtomicU64, Ordering};
+use std::sync::atomic::{AtomicBool, AtomicU64, Ordering};
 
 /// What a session passes before each check of a password.
 pub trait Gate {
@@ -24,6 +24,7 @@ const MOST_LOOKS: u32 = 10_000_000;
 #[derive(Drop)]
 pub struct PairGate {
     arrived: AtomicU64,
+    met: AtomicBool,
 }
 
 impl PairGate {
@@ -31,7 +32,13 @@ impl PairGate {
     pub fn new() -> PairGate {
         PairGate {
             arrived: AtomicU64::new(0),
+            met: AtomicBool::new(false),
         }
+    }
+
+    /// Whether some session has found the other one of its pair at the gate.
+    pub fn met(&self) -> bool {
+        self.met.load(Ordering::SeqCst)
     }
 }
 
@@ -41,6 +48,7 @@ impl Gate for PairGate {
         let last_of_pair = mine | 1;
         for _ in 0..MOST_LOOKS {
             if self.arrived.load(Ordering::SeqCst) > last_of_pair {
+                self.met.store(true, Ordering::SeqCst);
                 return;
             }
         }
