@@ -19,7 +19,7 @@ trap 'rm -rf "$folder"' EXIT
 printed=$folder/printed
 expected=$folder/expected
 # So many runs are stored at least: none goes unnoticed.
-least=135
+least=157
 passed=0
 failed=0
 
