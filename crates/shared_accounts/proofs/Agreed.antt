@@ -21,7 +21,7 @@ use Rattle.account_history.specs.Telling.{Kept, is_of, kept}
 use Rattle.account_history.specs.declared.entries.Entry.{Entry}
 use Rattle.account_history.specs.declared.entries.Who.{Who}
 use Rattle.account_history.specs.declared.entries.Who.TheVariants as who
-use Rattle.account_history.proofs.Numbered.{numbers-stay-gone, passing, rise-of}
+use Rattle.account_history.proofs.Numbered.{numbers-stay-gone, rise-of}
 use Rattle.account_history.proofs.Unchanged.{force-own, own_force, own-same}
 use Rattle.account_machine.specs.Agreeing.{Agrees, undigested, undigested_account, undigested_look}
 use Rattle.shared_accounts.specs.Beginnings.{history_of}

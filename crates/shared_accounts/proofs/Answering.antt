@@ -1,5 +1,5 @@
 -- What a turn that served a call promises of it.
-use Rattle.std.proofs.Common.{◌≡◌, refl, ap, sym, ◌∙◌, ℕ, ◌+◌, ◌<◌, List, [], ◌∷◌, ◌++◌, map, option_to_list, subst}
+use Rattle.std.proofs.Common.{◌≡◌, ap, sym, ◌∙◌, ℕ, ◌+◌, ◌<◌, List, [], ◌∷◌, option_to_list, subst}
 use Rattle.factor_chain.specs.CheckedOf.{CheckedOf}
 use Rattle.factor_chain.specs.declared.credentials.Look.{Look}
 use Rattle.factor_chain.specs.declared.evidence_list.Evidence.{Evidence}
@@ -17,13 +17,13 @@ use Rattle.turn_book.specs.Views.{entries_seen}
 use Rattle.turn_book.specs.Book.{TookTurn}
 use Rattle.shared_accounts.specs.Beginnings.{history_of, log_of}
 use Rattle.shared_accounts.specs.Calls.{IsLooked, IsTimely, added_by, attempt_of, attempt_on, run_of, run_on}
-use Rattle.shared_accounts.specs.Sharing.{AccountsView, Attempts, HasLook, Looked, NothingAdded, Runs, WasLate}
+use Rattle.shared_accounts.specs.Sharing.{AccountsView, Attempts, HasLook, Looked, Runs, WasLate}
 use Rattle.shared_accounts.specs.Tickets.{LateOf, TicketOf}
 use Rattle.shared_accounts.specs.declared.calls.Outcome.{Outcome}
 use Rattle.shared_accounts.specs.declared.calls.Outcome.TheVariants.{Done, Stale}
 use Rattle.shared_accounts.specs.declared.calls.Ran.{Ran}
 use Rattle.shared_accounts.specs.declared.desk.Begun.{Begun}
-use Rattle.shared_accounts.proofs.Turning.{entered, entries_then, legal-entered, legal-passed, passed, same-carried, seen-here, timely-done, timely-stale}
+use Rattle.shared_accounts.proofs.Turning.{entered, entries_then, legal-entered, legal-passed, same-carried, seen-here, timely-stale}
 
 module _ (begun : Begun) (v w : AccountsView) (others : List (Made Entry)) where
   abbrev pub then : History

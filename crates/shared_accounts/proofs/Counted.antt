@@ -1,12 +1,12 @@
 -- Failures count once.
-use Rattle.std.proofs.Common.{◌≡◌, refl, ap, sym, ◌∙◌, ℕ, ◌&&◌, List, [], ◌∷◌, ◌++◌, Bool, true, false, if◌then◌else◌, Option, Some, None, subst}
+use Rattle.std.proofs.Common.{◌≡◌, refl, ap, sym, ◌∙◌, ℕ, ◌&&◌, List, [], ◌∷◌, ◌++◌, Bool, true, false, if◌then◌else◌, Option, Some, None}
 use Rattle.std.specs.List.{list_all}
 use Rattle.login_lock.specs.declared.LockRule.{LockRule}
 use Rattle.login_lock.specs.Lock.{after, counts, standing}
 use Rattle.account_rules.specs.declared.accounts.Account.{Account}
 use Rattle.account_history.specs.Deciding.{Condition, IsThere, IsUnblocked, IsProved, IsUnlocked, IsUsable, Login, conditions, holds_of, login_at}
 use Rattle.account_history.specs.Failures.{failures, opens}
-use Rattle.account_history.specs.Histories.{History, ◌▹◌, moment}
+use Rattle.account_history.specs.Histories.{History}
 use Rattle.account_history.specs.Known.{known}
 use Rattle.account_history.specs.Records.{in_force, records}
 use Rattle.account_history.specs.Verifying.{account_verifies}

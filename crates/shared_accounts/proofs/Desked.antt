@@ -1,5 +1,5 @@
 -- The desk in a turn: what holds of its accounts, and what it keeps after a call.
-use Rattle.std.proofs.Common.{◌≡◌, ◌⊎◌, ⊎_elim, refl, ap, sym, ◌∙◌, ℕ, ◌<◌, ◌≤◌, max, Bool, true, false, if◌then◌else◌, List, ◌∷◌, Option, Some, option_map, Result, Ok, Err, IfOk, OnErr, subst, arith}
+use Rattle.std.proofs.Common.{◌≡◌, ◌⊎◌, ⊎_elim, refl, ap, sym, ◌∙◌, ℕ, ◌<◌, ◌≤◌, max, Bool, true, false, if◌then◌else◌, List, Option, Some, option_map, Result, Ok, Err, IfOk, OnErr, subst, arith}
 use Rattle.std.proofs.lemmas.Bool.{cases_order}
 use Rattle.lg_base.specs.declared.allocation.Memory.{Memory}
 use Rattle.lg_outside.specs.declared.keepers.Row.{Row}
@@ -8,7 +8,7 @@ use Rattle.account_rules.specs.declared.accounts.Account.{Account}
 use Rattle.stmt_rules.specs.declared.statement.Statement.{Statement}
 use Rattle.account_history.specs.Effects.{effect_of}
 use Rattle.account_history.specs.Given.{given, is_done}
-use Rattle.account_history.specs.Histories.{History, ◌▹◌, history, moment, noted}
+use Rattle.account_history.specs.Histories.{◌▹◌, history, moment, noted}
 use Rattle.account_history.specs.Legal.{IsLegal, last_count}
 use Rattle.account_history.specs.Numbers.{RiseTo}
 use Rattle.account_history.specs.Records.{records}
@@ -27,7 +27,7 @@ use Rattle.account_machine.specs.Restarts.{rows_kept}
 use Rattle.account_machine.proofs.Told.{kept-effect}
 use Rattle.shared_accounts.specs.Beginnings.{history_of, log_of}
 use Rattle.shared_accounts.specs.Calls.{Came, IsTimely, run_of}
-use Rattle.shared_accounts.specs.declared.calls.Outcome.TheVariants.{Done, Stale}
+use Rattle.shared_accounts.specs.declared.calls.Outcome.TheVariants.{Stale}
 use Rattle.shared_accounts.specs.declared.calls.Ran.{Ran}
 use Rattle.shared_accounts.specs.declared.desk.Begun.{Begun}
 use Rattle.shared_accounts.proofs.Agreed.{came-agrees}

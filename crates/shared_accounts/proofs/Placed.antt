@@ -1,5 +1,5 @@
 -- Where a look came from, and what its place tells.
-use Rattle.std.proofs.Common.{◌≡◌, ◌⊎◌, ⊎_elim, refl, ap, sym, ◌∙◌, ℕ, zero, suc, ◌+◌, ◌<◌, ◌≤◌, max, ◌==◌, cond, List, [], ◌∷◌, ◌++◌, length, find, slice_index_or, Contains, Bool, true, false, if◌then◌else◌, Option, Some, None, IsSome, subst, arith, eqb-true, append_assoc}
+use Rattle.std.proofs.Common.{◌≡◌, ◌⊎◌, ⊎_elim, refl, ap, sym, ◌∙◌, ℕ, zero, suc, ◌+◌, ◌<◌, ◌≤◌, max, ◌==◌, List, [], ◌∷◌, ◌++◌, length, find, slice_index_or, Contains, Bool, true, false, if◌then◌else◌, Option, Some, None, IsSome, subst, arith, eqb-true}
 use Rattle.std.proofs.lemmas.Bool.{cases_order}
 use Rattle.factor_chain.specs.declared.credentials.Look.{Look}
 use Rattle.account_rules.specs.declared.accounts.Account.{Account}
@@ -22,7 +22,7 @@ use Rattle.account_history.proofs.Numbered.{given-more-in, gone-changed, gone-cr
 use Rattle.account_history.proofs.OneMore.{stamp-more}
 use Rattle.shared_accounts.specs.Beginnings.{history_of}
 use Rattle.shared_accounts.specs.Calls.{Came, WasGiven}
-use Rattle.shared_accounts.specs.Sharing.{HasLook, HasStood, OwnHasStood}
+use Rattle.shared_accounts.specs.Sharing.{HasLook, OwnHasStood}
 use Rattle.shared_accounts.specs.Tickets.{TicketOf}
 use Rattle.shared_accounts.specs.declared.desk.Begun.{Begun}
 

@@ -1,5 +1,5 @@
 -- Dots are a salt.
-use Rattle.std.proofs.Common.{ℕ, zero, suc, List, replicate, All, inl, arith}
+use Rattle.std.proofs.Common.{ℕ, zero, suc, replicate, All, inl, arith}
 use Rattle.std.specs.List.{AllByRecursion}
 use Rattle.std.proofs.lemmas.List.Elements.{All-from_recursion}
 use Rattle.sha256_crypt.specs.Alphabet.{IsSaltByte}

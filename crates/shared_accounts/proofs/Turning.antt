@@ -1,9 +1,9 @@
 -- A whole turn of a seat as an entry of the history, or as none.
-use Rattle.std.proofs.Common.{◌≡◌, refl, ap, sym, ◌∙◌, ℕ, ◌<◌, List, [], ◌∷◌, ◌++◌, map, length, Contains, Some, option_to_list, subst, append-nil, arith}
+use Rattle.std.proofs.Common.{◌≡◌, refl, ap, sym, ◌∙◌, ℕ, ◌<◌, List, [], ◌∷◌, ◌++◌, map, Contains, option_to_list, subst, append-nil, arith}
 use Rattle.std.proofs.lemmas.List.{length-map, map-append}
 use Rattle.std.proofs.lemmas.List.Elements.{Contains-append_right}
 use Rattle.factor_chain.specs.declared.credentials.Look.{Look}
-use Rattle.account_history.specs.Histories.{History, ◌▹◌, history, noted}
+use Rattle.account_history.specs.Histories.{◌▹◌, history}
 use Rattle.account_history.specs.Legal.{IsLegal}
 use Rattle.account_history.specs.Stamps.{stamp}
 use Rattle.account_history.specs.declared.entries.Entry.{Entry}

@@ -1,5 +1,5 @@
 -- Failures count once, whatever threads do: each attempt is one entry of the one history, and what it counts is decided there.
-use Rattle.std.specs.Prelude.{◌≡◌, ℕ, max, ◌==◌, List, [], ◌∷◌, ◌++◌, true, false, Some, None}
+use Rattle.std.specs.Prelude.{◌≡◌, ℕ, max, ◌==◌, [], ◌∷◌, ◌++◌, true, false, Some, None}
 use Rattle.factor_chain.specs.declared.credentials.Look.{Look}
 use Rattle.login_lock.specs.Lock.{counts, standing}
 use Rattle.account_rules.specs.declared.accounts.Account.{Account}

@@ -1,15 +1,14 @@
 -- What the calls on shared accounts promise. All of it speaks of the history that a seat has seen: before the call, and after.
-use Rattle.std.specs.Prelude.{◌≡◌, ℕ, ◌+◌, ◌<◌, false, List, [], ◌∷◌, ◌++◌, length, Option, Some, IfSome, IsSome, find, replicate}
+use Rattle.std.specs.Prelude.{◌≡◌, ℕ, ◌+◌, ◌<◌, false, List, [], ◌∷◌, ◌++◌, length, IfSome, IsSome, find, replicate}
 use Rattle.std.specs.List.{Contains}
-use Rattle.lg_outside.specs.declared.keepers.Row.{Row}
 use Rattle.factor_chain.specs.CheckedOf.{CheckedOf}
 use Rattle.factor_chain.specs.declared.credentials.Look.{Look}
 use Rattle.factor_chain.specs.declared.evidence_list.Evidence.{Evidence}
 use Rattle.stmt_rules.specs.declared.statement.Statement.{Statement}
-use Rattle.account_history.specs.Answers.{attempt_reply, look_of, statement_reply}
-use Rattle.account_history.specs.Histories.{History, ◌▹◌, history, noted}
+use Rattle.account_history.specs.Answers.{attempt_reply, look_of}
+use Rattle.account_history.specs.Histories.{history, noted}
 use Rattle.account_history.specs.Legal.{IsAnswered, IsLegal}
-use Rattle.account_history.specs.Preparing.{PreparedOf, is_preparable}
+use Rattle.account_history.specs.Preparing.{PreparedOf}
 use Rattle.account_history.specs.Records.{has_id, records}
 use Rattle.account_history.specs.Stamps.{stamp}
 use Rattle.account_history.specs.declared.entries.Entry.{Entry}
@@ -20,19 +19,16 @@ use Rattle.account_history.specs.declared.entries.StmtReply.{StmtReply}
 use Rattle.account_history.specs.declared.entries.Who.{Who}
 use Rattle.account_history.specs.declared.entries.Who.TheVariants.{Login, Account, Own}
 use Rattle.account_machine.specs.Labels.{ShowsFewLabels}
-use Rattle.account_machine.specs.Restarts.{rows_kept}
 use Rattle.turn_book.specs.declared.object.TurnFault.{TurnFault}
 use Rattle.turn_book.specs.declared.object.TurnFault.TheVariants as fault
 use Rattle.turn_book.specs.declared.seat.Seat as BookSeat
-use Rattle.turn_book.specs.declared.view.Made.{Made}
 use Rattle.turn_book.specs.declared.view.View.{View}
 use Rattle.turn_book.specs.Views.{entries_seen, mine, number_of, signed}
 use Rattle.turn_book.specs.Book.{Ended, IsOf, began, view}
-use Rattle.shared_accounts.specs.Beginnings.{BeganRecorded, log_of}
+use Rattle.shared_accounts.specs.Beginnings.{log_of}
 use Rattle.shared_accounts.specs.Calls.{attempt_of, run_of}
 use Rattle.shared_accounts.specs.Desks.{desk_start}
 use Rattle.shared_accounts.specs.Tickets.{LateOf, TicketOf}
-use Rattle.shared_accounts.specs.declared.calls.Ran.{Ran}
 use Rattle.shared_accounts.specs.declared.desk.Begun.{Begun}
 use Rattle.shared_accounts.specs.declared.desk.Desk.{Desk}
 use Rattle.shared_accounts.specs.declared.shared.Committed.{Committed}

@@ -21,6 +21,7 @@ use shared_accounts::{Committed, Late, Seat, Settled, SharedAccounts};
 use std::alloc::Global;
 use std::sync::Wait;
 use std::sync::atomic::{AtomicU64, Ordering};
+use std::thread;
 use stmt_rules::{Statement, Target};
 use stmt_syntax::{SyntaxFault, read};
 
@@ -28,6 +29,8 @@ use stmt_syntax::{SyntaxFault, read};
 pub const FLAGS: u32 = 0x00a2_8210;
 /// The nonce that answers are to.
 const NONCE: [u8; 20] = *b"00000000000000000001";
+/// How often an attempt lets other threads run before it is settled.
+const YIELDS: u32 = 50;
 /// The number of `'root'@'localhost'`, who asks for each statement.
 const ROOT: u64 = 1;
 
@@ -100,6 +103,18 @@ pub fn login_of(alloc: Global, user: &[u8]) -> Result<Who, Memory>
     Ok(Who::Login(Bytes::copy(alloc, user)?))
 }
 
+/// The number of the newest password that is known to be set, after other threads had time to set one. 0 says that none sets
+/// one, and that no time is wanted.
+fn set_by_now(newest: &AtomicU64) -> u64 {
+    if newest.load(Ordering::SeqCst) == 0 {
+        return 0;
+    }
+    for _ in 0..YIELDS {
+        thread::yield_now();
+    }
+    newest.load(Ordering::SeqCst)
+}
+
 /// One attempt to log in. The evidence is checked on a look; after the first stale answer on another, after the second in
 /// the turn. `newest` has the number of the newest password that is known to be set. `None` where memory or the book's turns are at their end.
 pub fn attempt<K: Keeper + Drop, R: Wait>(
@@ -123,7 +138,7 @@ pub fn attempt<K: Keeper + Drop, R: Wait>(
     };
     let stamp = ticket.stamp();
     let checked = check(look, evidences);
-    let set = newest.load(Ordering::SeqCst);
+    let set = set_by_now(newest);
     match shared.settle(rt, seat, ticket, checked, FLAGS, reading) {
         Settled::Done(reply) => Some(Tried { reply, stamp, set }),
         Settled::Stale(late, evidences) => {
@@ -159,7 +174,7 @@ pub fn attempt_again<K: Keeper + Drop, R: Wait>(
     };
     let stamp = ticket.stamp();
     let checked = check(look, evidences);
-    let set = newest.load(Ordering::SeqCst);
+    let set = set_by_now(newest);
     match shared.settle(rt, seat, ticket, checked, FLAGS, reading) {
         Settled::Done(reply) => Some(Tried { reply, stamp, set }),
         Settled::Stale(late, evidences) => {
@@ -185,7 +200,7 @@ pub fn attempt_locked<K: Keeper + Drop, R: Wait>(
     ensures own { Sits shared.now seat.new }
 {
     let stamp = late.stamp();
-    let set = newest.load(Ordering::SeqCst);
+    let set = set_by_now(newest);
     match shared.settle_locked(rt, seat, late, user, evidences, FLAGS, reading) {
         Settled::Done(reply) => Some(Tried { reply, stamp, set }),
         Settled::Stale(_late, _evidences) => None,

@@ -248,7 +248,7 @@ pub fn fail_together<R: Threads + Wait + Sync>(
         b"CREATE USER 'ann'@'localhost' IDENTIFIED WITH mysql_native_password BY 'p1' FAILED_LOGIN_ATTEMPTS 50 PASSWORD_LOCK_TIME 1";
     perform(rt, alloc, &shared, &mut seat, created.as_slice())?;
     let other = shared.split(&mut seat);
-    let newest = AtomicU64::new(1);
+    let newest = AtomicU64::new(0);
     let counts = in_threads(
         rt,
         alloc,

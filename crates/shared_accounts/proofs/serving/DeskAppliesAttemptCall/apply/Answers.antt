@@ -1,4 +1,4 @@
-use Rattle.std.proofs.Common.{◌≡◌, refl, ap, sym, ◌∙◌}
+use Rattle.std.proofs.Common.{refl, ap, sym, ◌∙◌}
 use Rattle.account_history.specs.Histories.{history}
 use Rattle.account_history.specs.Stamps.{stamp}
 use Rattle.account_history.specs.declared.entries.Who.TheVariants.{Login}

@@ -1,4 +1,4 @@
-use Rattle.std.proofs.Common.{◌≡◌, refl, ap, sym, ◌∙◌, Some, subst}
+use Rattle.std.proofs.Common.{refl, ap, sym, ◌∙◌, Some, subst}
 use Rattle.account_history.specs.Histories.{history}
 use Rattle.account_history.specs.Records.{records}
 use Rattle.account_history.specs.declared.entries.Log.{Log}

@@ -1,4 +1,4 @@
-use Rattle.std.proofs.Common.{◌≡◌, ap, Err, subst, [], ◌∷◌}
+use Rattle.std.proofs.Common.{ap, Err, subst, [], ◌∷◌}
 use Rattle.turn_book.specs.Book.{TookTurn, began, view}
 use Rattle.shared_accounts.specs.Desks.{desk_start}
 use Rattle.shared_accounts.specs.Beginnings.{history_of}

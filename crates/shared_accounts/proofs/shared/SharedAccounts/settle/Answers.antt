@@ -1,4 +1,4 @@
-use Rattle.std.proofs.Common.{◌≡◌, sym, subst, option_to_list}
+use Rattle.std.proofs.Common.{sym, subst, option_to_list}
 use Rattle.turn_book.specs.Book.{TookTurn, began, view}
 use Rattle.shared_accounts.specs.Desks.{desk_start}
 use Rattle.turn_book.specs.Views.{entries_seen}
