@@ -1,0 +1,33 @@
+use Rattle.std.proofs.Common.{refl, subst}
+use Rattle.session_serve.specs.declared.holding.Held.{Held}
+use Rattle.session_serve.specs.declared.holding.Paper.TheVariants as paper
+use Rattle.serve_talk.specs.Fitting.{opened_by}
+use Rattle.session_talk.specs.declared.actions.Ask.TheVariants as ask
+use Rattle.shared_accounts.specs.Desks.{desk_start}
+use Rattle.shared_accounts.specs.Sharing.{FailedLook}
+use Rattle.turn_book.specs.Book.{began, view}
+use Rattle.turn_book.specs.declared.object.TurnFault.{TurnFault}
+use Rattle.session_serve.proofs.Facts.{nonce_is_salt, readable_written}
+use Rattle.session_serve.proofs.Owning.{committed_locked_answered, end_fell, holds_taken, memory_fell}
+use Rattle.session_serve.proofs.statements.commit_locked.Goals as goal
+
+pub returns-in-Done-clause-answered : goal.returns-in-Done-clause-answered
+returns-in-Done-clause-answered g c draws =
+    committed_locked_answered (began desk_start c.args.accounts.now.book) (view c.args.seat.now) (view c.commit_locked.new.seat) c.args.held.now c.take_late-late.new.self draws (g.C.Clock.given c.args.clock.now) (g.C.Clock.given c.now-reading.new.self) c.now-reading.result c.now-reading.ensures.given
+    c.args.statement c.args.salt c.args.actor c.in-Done.reply c.in-Done.ensures.committed (holds_taken c.args.held.now c.take_late-late.new.self c.take_late-late.ensures.left) c.requires.keeps
+
+pub returns-in-Memory-clause-fell : goal.returns-in-Memory-clause-fell
+returns-in-Memory-clause-fell g c draws =
+    memory_fell (began desk_start c.args.accounts.now.book) (view c.args.seat.now) (view c.commit_locked.new.seat) c.args.held.now c.take_late-late.new.self draws (g.C.Clock.given c.args.clock.now) (g.C.Clock.given c.now-reading.new.self) c.now-reading.result c.now-reading.ensures.given
+    (ask.CommitLocked c.args.statement c.args.salt c.args.actor) refl c.in-Memory.ensures.committed
+
+pub returns-in-BookEnd-clause-fell : goal.returns-in-BookEnd-clause-fell
+returns-in-BookEnd-clause-fell g c draws =
+    end_fell (began desk_start c.args.accounts.now.book) (view c.args.seat.now) (view c.commit_locked.new.seat) c.args.held.now c.take_late-late.new.self draws (g.C.Clock.given c.args.clock.now) (g.C.Clock.given c.now-reading.new.self) c.now-reading.result c.now-reading.ensures.given
+    (ask.CommitLocked c.args.statement c.args.salt c.args.actor) refl c.in-BookEnd.ensures.committed
+
+pub commit_locked-requires-clause-written : goal.commit_locked-requires-clause-written
+commit_locked-requires-clause-written g c = readable_written c.args.statement c.requires.can.0
+
+pub commit_locked-requires-clause-letters : goal.commit_locked-requires-clause-letters
+commit_locked-requires-clause-letters g c = nonce_is_salt c.args.salt c.requires.can.2

@@ -1,0 +1,5 @@
+pub mod Holding
+pub mod Siding
+pub mod Answering
+pub mod Saying
+pub mod Standing
