@@ -1,0 +1,4 @@
+pub mod Edges
+pub mod Lines
+pub mod Visits
+pub mod Standing
