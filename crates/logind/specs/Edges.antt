@@ -1,14 +1,18 @@
 -- What the door and the sink of a server tell.
-use Rattle.std.specs.Prelude.{◌≡◌, ℕ, ◌+◌, ◌≤◌, List, ◌++◌, length, Bool, true, false, Option, Some, None}
+use Rattle.std.specs.Prelude.{◌≡◌, ℕ, ◌+◌, ◌≤◌, List, [], ◌++◌, length, Bool, true, false, Option, Some, None}
 use Rattle.lg_outside.specs.Faults.{Rose}
 use Rattle.server_outside.specs.Halls.{Hall}
 
--- the links of the door, the bytes that were written to the sink, and how many faults either had
+-- the bytes that were written to the sink, and how many faults it had
+pub record Output : Type 0 where
+  pub written : Option (List ℕ)
+  pub faults : ℕ
+
+-- the links of the door and how many faults it had, beside the sink
 pub record Edge (Conn : Type 0) : Type 0 where
   pub hall : Option (Hall Conn)
-  pub door_faults : ℕ
-  pub written : Option (List ℕ)
-  pub sink_faults : ℕ
+  pub faults : ℕ
+  pub output : Output
 
 -- the door let these links in, the first that were left, and those were given back to it
 abbrev pub LetThrough : {Conn : Type 0} → Option (Hall Conn) → Option (Hall Conn) → (came went : List Conn) → Type 0
@@ -37,6 +41,6 @@ WrotePart None after text = after ≡ None
 WrotePart (Some before) after text = (front : List ℕ) × (rest : List ℕ) × (text ≡ front ++ rest) × (after ≡ Some (before ++ front))
 
 -- a text was printed, or only its beginning, where the sink failed
-abbrev pub Printed : {Conn : Type 0} → Edge Conn → Edge Conn → (text : List ℕ) → (is_cut : Bool) → Type 0
-Printed x y text false = (x.sink_faults ≤ y.sink_faults) × Wrote x.written y.written text
-Printed x y text true = Rose x.sink_faults y.sink_faults × WrotePart x.written y.written text
+abbrev pub Printed : Output → Output → (text : List ℕ) → (is_cut : Bool) → Type 0
+Printed x y text false = (x.faults ≤ y.faults) × Wrote x.written y.written text
+Printed x y text true = Rose x.faults y.faults × WrotePart x.written y.written text

@@ -2,3 +2,4 @@ pub mod Edges
 pub mod Lines
 pub mod Visits
 pub mod Standing
+pub mod Handles

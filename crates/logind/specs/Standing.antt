@@ -34,5 +34,5 @@ module _ {Conn Time Random : Type 0} where
       pub runs : AllNew told finished fault_count readings drawn IsClock IsDraws accounts (suc (length done)) running
       pub counted : taken ≡ length done + length running
       pub door : LetThrough x.hall y.hall (map came_of done ++ (map link_of running ++ lost)) (map went_of done)
-      pub rising : x.door_faults ≤ y.door_faults
-      pub printed : Printed x y (session_lines 1 done) is_cut
+      pub rising : x.faults ≤ y.faults
+      pub printed : Printed x.output y.output (session_lines 1 done) is_cut

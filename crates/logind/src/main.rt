@@ -1,6 +1,8 @@
 //! `logind`: the login server.
 #![tactic(auto)]
 
+mod printing;
+mod sessions;
 mod stub;
 mod visits;
 

@@ -40,7 +40,7 @@ pub struct Visited<S, L, C, Q> {
 
 /// What a session was given. Its thread promises to have served it.
 #[derive(Drop)]
-pub struct Visit<A, S, L, C, Q> {
+pub struct Promised<A, S, L, C, Q> {
     pub id: u32,
     pub accounts: Snapshot<A>,
     pub seat: Snapshot<S>,
@@ -50,7 +50,7 @@ pub struct Visit<A, S, L, C, Q> {
 }
 
 impl<K: Keeper + Drop, L: Link, C: Clock, Q: Draws> Promise<Visited<Seat<K>, L, C, Q>>
-    for Visit<SharedAccounts<K>, Seat<K>, L, C, Q>
+    for Promised<SharedAccounts<K>, Seat<K>, L, C, Q>
 {
     ghost use Rattle.logind.specs.Visits.{CameBack};
     ghost use Rattle.shared_accounts.specs.Desks.{desk_start};
@@ -69,7 +69,7 @@ impl<K: Keeper + Drop, L: Link, C: Clock, Q: Draws> Promise<Visited<Seat<K>, L, 
 }
 
 /// A session that runs in a thread.
-pub type Running<K, L, C, Q> = PromisedHandle<Visited<Seat<K>, L, C, Q>, Visit<SharedAccounts<K>, Seat<K>, L, C, Q>>;
+pub type Running<K, L, C, Q> = PromisedHandle<Visited<Seat<K>, L, C, Q>, Promised<SharedAccounts<K>, Seat<K>, L, C, Q>>;
 
 /// Serves a session to its end, and tells that it doesn't run any more.
 fn serve<K: Keeper + Drop, L: Link, C: Clock, Q: Draws, G: Gate, R: Wait>(
@@ -144,7 +144,7 @@ pub fn start<
         (view r.seat)
         (record { came = arrival.link; went = r.link; clock = r.clock; draws = r.draws; how = r.how })) }
 {
-    let promise = Visit {
+    let promise = Promised {
         id: arrival.id,
         accounts: Snapshot::of(accounts),
         seat: Snapshot::of(&arrival.seat),

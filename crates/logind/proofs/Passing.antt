@@ -1,0 +1,52 @@
+-- Links that come in and are given back.
+use Rattle.std.proofs.Common.{◌≡◌, ℕ, suc, ◌+◌, ◌-◌, ◌<◌, ◌≤◌, List, [], ◌∷◌, ◌++◌, drop, length, Option, Some, None, Ok, refl, sym, ap, ◌∙◌, subst, arith, append_assoc, append-nil, length-append}
+use Rattle.server_outside.specs.Halls.{Hall, HasGiven, Lets, TakesBack}
+use Rattle.logind.specs.Edges.{HasOut, LetThrough}
+
+module _ {Conn : Type 0} where
+  pub nothing_through : (hall : Option (Hall Conn)) → LetThrough hall hall [] []
+  nothing_through None = refl
+  nothing_through (Some h) = (h.left, h.out, refl, omega arith, ap (λ b. Some (record { left = h.left; out = h.out; back = b })) (sym (append-nil h.back)))
+
+  pub let_in : (x y z : Option (Hall Conn)) (came went : List Conn) (link : Conn) → LetThrough x y came went → Lets y z (Ok (Some link)) → LetThrough x z (came ++ link ∷ []) went
+  let_in None y z came went link t l = subst (λ o. Lets o z (Ok (Some link))) t l
+  let_in (Some h) y z came went link t l =
+      let n = subst (λ o. Lets o z (Ok (Some link))) t.4 l in
+      let count : length (came ++ link ∷ []) ≡ length came + 1 = length-append came (link ∷ []) in
+      let out : t.1 + length went ≡ h.out + length came = t.3 in (
+        drop 1 t.0,
+        t.1 + 1,
+        t.2 ∙ (ap (λ l. came ++ l) n.0 ∙ sym (append_assoc came (link ∷ []) (drop 1 t.0))),
+        omega arith,
+        n.1,
+      )
+
+  pub given_back : (x y z : Option (Hall Conn)) (came went : List Conn) (link : Conn) → LetThrough x y came went → HasOut 1 y → TakesBack link y z → LetThrough x z came (went ++ link ∷ [])
+  given_back None y z came went link t o b = subst (λ o. TakesBack link o z) t b
+  given_back (Some h) y z came went link t o b =
+      let n = subst (λ o. TakesBack link o z) t.4 b in
+      let some : 1 ≤ t.1 = subst (λ o. HasOut 1 o) t.4 o in
+      let count : length (went ++ link ∷ []) ≡ length went + 1 = length-append went (link ∷ []) in
+      let out : t.1 + length went ≡ h.out + length came = t.3 in (
+        t.0,
+        t.1 - 1,
+        t.2,
+        omega arith,
+        n ∙ ap (λ l. Some (record { left = t.0; out = t.1 - 1; back = l })) (append_assoc h.back went (link ∷ [])),
+      )
+
+  pub one_more_out : (n : ℕ) (y z : Option (Hall Conn)) (link : Conn) → HasOut n y → Lets y z (Ok (Some link)) → HasOut (suc n) z
+  one_more_out n None z link o l = subst (HasOut (suc n)) (sym l) (tt {0})
+  one_more_out n (Some h) z link o l = subst (HasOut (suc n)) (sym l.1) (omega arith)
+
+  pub one_less_out : (n : ℕ) (y z : Option (Hall Conn)) (link : Conn) → HasOut (suc n) y → TakesBack link y z → HasOut n z
+  one_less_out n None z link o b = subst (HasOut n) (sym b) (tt {0})
+  one_less_out n (Some h) z link o b = subst (HasOut n) (sym b) (omega arith)
+
+  pub fewer_out : (m n : ℕ) (y : Option (Hall Conn)) → m ≤ n → HasOut n y → HasOut m y
+  fewer_out m n None less o = tt {0}
+  fewer_out m n (Some h) less o = omega arith
+
+  pub has_given : (y : Option (Hall Conn)) → HasOut 1 y → HasGiven y
+  has_given None o = tt {0}
+  has_given (Some h) o = omega arith
