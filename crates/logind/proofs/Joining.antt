@@ -105,6 +105,10 @@ module _ {Conn Time Random : Type 0} (told : Conn → Option Traffic) (finished 
     abbrev Standing : AccountsView → ℕ → List (Given Shared Conn Time Random) → List Conn → Edge Conn → Bool → Type 0
     Standing = Stands told finished fault_count readings drawn IsClock IsDraws begun accounts x
 
+    pub relisted : (v : AccountsView) (taken : ℕ) (gs hs : List (Given Shared Conn Time Random)) (lost : List Conn) (y : Edge Conn) (cut : Bool) → gs ≡ hs
+        → Standing v taken gs lost y cut → Standing v taken hs lost y cut
+    relisted v taken gs hs lost y cut e st = subst (λ (l : List (Given Shared Conn Time Random)). Standing v taken l lost y cut) e st
+
     -- ## A session is taken back
 
     module _ (v u w : AccountsView) (taken : ℕ) (g : Given Shared Conn Time Random) (gs : List (Given Shared Conn Time Random)) (lost : List Conn) (s : Visit Conn Time Random) (y z : Edge Conn) (cut cut' : Bool)
@@ -118,12 +122,12 @@ module _ {Conn Time Random : Type 0} (told : Conn → Option Traffic) (finished 
       fresh_side : IsFresh (side_of begun g.seat (drawn g.draws) (readings g.clock))
       fresh_side = record { unmade = ap (map entry_at) st.runs.0.unmade; undrawn = st.runs.0.undrawn; ungiven = st.runs.0.ungiven; unread = st.runs.0.unread }
 
-      taken_in : IsClock s.clock → IsDraws g.id s.draws → Served begun (suc count) w s
+      taken_in : IsClock s.clock → IsDraws (suc count) s.draws → Served begun (suc count) w s
       taken_in clock draws = record {
         unused = subst (λ (c : Conn). IsUnused (told c)) (sym came.came_is) st.runs.0.unused;
         finished_is = came.finished_is;
         clock_is = clock;
-        draws_is = subst (λ (k : ℕ). IsDraws k s.draws) id_is draws;
+        draws_is = draws;
         before = side_of begun g.seat (drawn g.draws) (readings g.clock);
         after = side_of begun u (drawn s.draws) (readings s.clock);
         fresh = fresh_side;
@@ -139,7 +143,7 @@ module _ {Conn Time Random : Type 0} (told : Conn → Option Traffic) (finished 
       ended_on : v.ended ≡ true → w.ended ≡ true
       ended_on e = ap (λ (a : AccountsView). a.ended) j.after ∙ or_left v.ended u.ended e
 
-      served_on : IsClock s.clock → IsDraws g.id s.draws → EachServed begun 1 w (st.done ++ s ∷ [])
+      served_on : IsClock s.clock → IsDraws (suc count) s.draws → EachServed begun 1 w (st.done ++ s ∷ [])
       served_on clock draws =
           let kept = all_kept begun 1 v w st.done (λ i low high. entries_kept (i ∷ []) v u w j (session_carried v.carried taken count i st.carried low (omega arith))) j.one ended_on st.served in
           let e : 1 + count ≡ suc count = omega arith in
@@ -164,7 +168,7 @@ module _ {Conn Time Random : Type 0} (told : Conn → Option Traffic) (finished 
       lines_on : session_lines 1 st.done ++ session_line g.id s.how ≡ session_lines 1 (st.done ++ s ∷ [])
       lines_on = ap (λ (k : ℕ). session_lines 1 st.done ++ session_line k s.how) (let e : g.id ≡ 1 + count = omega (arith, id_is) in e) ∙ sym (lines_more 1 st.done s)
 
-      pub joined : IsClock s.clock → IsDraws g.id s.draws → HasOut 1 y.hall → TakesBack s.went y.hall z.hall → z.faults ≡ y.faults
+      pub joined : IsClock s.clock → IsDraws (suc count) s.draws → HasOut 1 y.hall → TakesBack s.went y.hall z.hall → z.faults ≡ y.faults
           → ((text : List ℕ) → Printed x.output y.output text cut → Printed x.output z.output (text ++ session_line g.id s.how) cut')
           → Standing w taken gs lost z cut'
       joined clock draws out back faults prints = record {

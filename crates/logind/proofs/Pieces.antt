@@ -54,5 +54,7 @@ pub two_pieces : (x z : Output) (text one two : List ℕ) (r : Bool) → Printed
 two_pieces x z text one two r p = subst (λ (l : List ℕ). Printed x z l r) (append_assoc text one two) p
 
 pub four_pieces : (x z : Output) (text one two three four : List ℕ) (r : Bool) → Printed x z ((((text ++ one) ++ two) ++ three) ++ four) r
-    → Printed x z (text ++ (one ++ (two ++ (three ++ four)))) r
-four_pieces x z text one two three four r p = two_pieces x z text one (two ++ (three ++ four)) r (two_pieces x z (text ++ one) two (three ++ four) r (two_pieces x z ((text ++ one) ++ two) three four r p))
+    → Printed x z (text ++ ((one ++ (two ++ three)) ++ four)) r
+four_pieces x z text one two three four r p =
+    let e : ((text ++ one) ++ two) ++ three ≡ text ++ (one ++ (two ++ three)) = append_assoc (text ++ one) two three ∙ append_assoc text one (two ++ three) in
+    two_pieces x z text (one ++ (two ++ three)) four r (subst (λ (l : List ℕ). Printed x z (l ++ four) r) e p)

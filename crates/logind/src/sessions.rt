@@ -18,6 +18,7 @@ use lg_outside::{Keeper, Link, Sink};
 use server_outside::{Door, Maker};
 use shared_accounts::{Seat, SharedAccounts};
 use std::collections::VecDeque;
+use std::sync::atomic::{AtomicU64, Ordering};
 use std::thread::Threads;
 
 /// The server's own seat, the sessions that run or wait to be joined, in the order of their numbers, how many sessions were
@@ -85,6 +86,7 @@ pub fn join_first<K: Keeper + Drop, D: Door, W: Sink, M: Maker, R: Threads>(
     requires out { HasOut (deque_len sessions.old.running) (D.told door.old) }
     ensures own { Sits accounts.now sessions.new.seat }
     ensures mine { AreOf accounts.now (map (λ h. given_of h.promise) sessions.new.running.items) }
+    ensures held { HasOut (deque_len sessions.new.running) (D.told door.new) }
     ensures joined { result ≡ true → deque_len sessions.new.running + 1 ≡ deque_len sessions.old.running }
     ensures none { result ≡ false → deque_len sessions.new.running ≡ 0 }
     ensures taken { sessions.new.taken ≡ sessions.old.taken }
@@ -104,4 +106,75 @@ pub fn join_first<K: Keeper + Drop, D: Door, W: Sink, M: Maker, R: Threads>(
     let visited = handle.join(rt);
     take_back::<K, D, W, M>(accounts, sessions, door, out, visited);
     true
+}
+
+/// Joins all sessions that run, in the order of their numbers.
+pub fn join_all<K: Keeper + Drop, D: Door, W: Sink, M: Maker, R: Threads>(
+    rt: &R,
+    accounts: &SharedAccounts<K>,
+    sessions: &mut Sessions<Seat<K>, Running<K, D::Conn, M::Time, M::Random>>,
+    door: &mut D,
+    out: &mut W,
+)
+    requires own { Sits accounts.now sessions.old.seat }
+    requires mine { AreOf accounts.now (map (λ h. given_of h.promise) sessions.old.running.items) }
+    requires out { HasOut (deque_len sessions.old.running) (D.told door.old) }
+    ensures own { Sits accounts.now sessions.new.seat }
+    ensures none { deque_len sessions.new.running ≡ 0 }
+    ensures mine { AreOf accounts.now (map (λ h. given_of h.promise) sessions.new.running.items) }
+    ensures taken { sessions.new.taken ≡ sessions.old.taken }
+    ensures out { (n : ℕ) → HasOut (deque_len sessions.old.running + n) (D.told door.old) → HasOut n (D.told door.new) }
+    ensures faults { D.fault_count door.new ≡ D.fault_count door.old }
+    ensures stands { (made : M.Made) (x : Edge D.Conn) (gs : List (Given _ D.Conn M.Time M.Random)) (lost : List D.Conn)
+        → Stands D.Conn.told D.Conn.finished D.Conn.fault_count M.Time.given M.Random.given (Passes M.Time.made_with (M.may_give_clock made)) (λ id. Passes M.Random.made_with (M.may_give_draws made id)) (began desk_start accounts.now.book) accounts.now x
+            (view sessions.old.seat) sessions.old.taken (map (λ h. given_of h.promise) sessions.old.running.items ++ gs) lost
+            (record { hall = D.told door.old; faults = D.fault_count door.old; output = record { written = W.written out.old; faults = W.fault_count out.old } }) sessions.old.is_cut
+        → Stands D.Conn.told D.Conn.finished D.Conn.fault_count M.Time.given M.Random.given (Passes M.Time.made_with (M.may_give_clock made)) (λ id. Passes M.Random.made_with (M.may_give_draws made id)) (began desk_start accounts.now.book) accounts.now x
+            (view sessions.new.seat) sessions.new.taken (gs) lost
+            (record { hall = D.told door.new; faults = D.fault_count door.new; output = record { written = W.written out.new; faults = W.fault_count out.new } }) sessions.new.is_cut }
+{
+    'joins: while join_first::<K, D, W, M, R>(rt, accounts, sessions, door, out) {}
+}
+
+/// How many sessions run at once.
+const MOST_RUNNING: u64 = 256;
+
+/// How many sessions that aren't joined yet are remembered.
+const MOST_WAITING: usize = 65_536;
+
+/// Joins the sessions that were taken first, until one more may run. Those that have ended don't count.
+pub fn make_room<K: Keeper + Drop, D: Door, W: Sink, M: Maker, R: Threads>(
+    rt: &R,
+    accounts: &SharedAccounts<K>,
+    places: &AtomicU64,
+    sessions: &mut Sessions<Seat<K>, Running<K, D::Conn, M::Time, M::Random>>,
+    door: &mut D,
+    out: &mut W,
+)
+    requires own { Sits accounts.now sessions.old.seat }
+    requires mine { AreOf accounts.now (map (λ h. given_of h.promise) sessions.old.running.items) }
+    requires out { HasOut (deque_len sessions.old.running) (D.told door.old) }
+    ensures own { Sits accounts.now sessions.new.seat }
+    ensures mine { AreOf accounts.now (map (λ h. given_of h.promise) sessions.new.running.items) }
+    ensures held { HasOut (deque_len sessions.new.running) (D.told door.new) }
+    ensures taken { sessions.new.taken ≡ sessions.old.taken }
+    ensures faults { D.fault_count door.new ≡ D.fault_count door.old }
+    ensures stands { (made : M.Made) (x : Edge D.Conn) (gs : List (Given _ D.Conn M.Time M.Random)) (lost : List D.Conn)
+        → Stands D.Conn.told D.Conn.finished D.Conn.fault_count M.Time.given M.Random.given (Passes M.Time.made_with (M.may_give_clock made)) (λ id. Passes M.Random.made_with (M.may_give_draws made id)) (began desk_start accounts.now.book) accounts.now x
+            (view sessions.old.seat) sessions.old.taken (map (λ h. given_of h.promise) sessions.old.running.items ++ gs) lost
+            (record { hall = D.told door.old; faults = D.fault_count door.old; output = record { written = W.written out.old; faults = W.fault_count out.old } }) sessions.old.is_cut
+        → Stands D.Conn.told D.Conn.finished D.Conn.fault_count M.Time.given M.Random.given (Passes M.Time.made_with (M.may_give_clock made)) (λ id. Passes M.Random.made_with (M.may_give_draws made id)) (began desk_start accounts.now.book) accounts.now x
+            (view sessions.new.seat) sessions.new.taken (map (λ h. given_of h.promise) sessions.new.running.items ++ gs) lost
+            (record { hall = D.told door.new; faults = D.fault_count door.new; output = record { written = W.written out.new; faults = W.fault_count out.new } }) sessions.new.is_cut }
+{
+    'joins: while is_full(places, sessions.running.len()) {
+        if !join_first::<K, D, W, M, R>(rt, accounts, sessions, door, out) {
+            return;
+        }
+    }
+}
+
+/// Whether as many sessions run, or are remembered, as may.
+fn is_full(places: &AtomicU64, waiting: usize) -> bool {
+    places.load(Ordering::SeqCst) >= MOST_RUNNING || waiting >= MOST_WAITING
 }
