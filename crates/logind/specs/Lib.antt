@@ -3,3 +3,5 @@ pub mod Lines
 pub mod Visits
 pub mod Standing
 pub mod Handles
+pub mod Statuses
+pub mod Stopping

@@ -1,8 +1,10 @@
 //! `logind`: the login server.
 #![tactic(auto)]
 
+mod admitting;
 mod printing;
 mod sessions;
+mod status;
 mod stub;
 mod visits;
 

@@ -89,6 +89,7 @@ pub fn join_first<K: Keeper + Drop, D: Door, W: Sink, M: Maker, R: Threads>(
     ensures held { HasOut (deque_len sessions.new.running) (D.told door.new) }
     ensures joined { result ≡ true → deque_len sessions.new.running + 1 ≡ deque_len sessions.old.running }
     ensures none { result ≡ false → deque_len sessions.new.running ≡ 0 }
+    ensures empty { result ≡ false → sessions.new.running.items ≡ [] }
     ensures taken { sessions.new.taken ≡ sessions.old.taken }
     ensures out { (n : ℕ) → HasOut (deque_len sessions.old.running + n) (D.told door.old) → HasOut (deque_len sessions.new.running + n) (D.told door.new) }
     ensures faults { D.fault_count door.new ≡ D.fault_count door.old }
@@ -120,7 +121,7 @@ pub fn join_all<K: Keeper + Drop, D: Door, W: Sink, M: Maker, R: Threads>(
     requires mine { AreOf accounts.now (map (λ h. given_of h.promise) sessions.old.running.items) }
     requires out { HasOut (deque_len sessions.old.running) (D.told door.old) }
     ensures own { Sits accounts.now sessions.new.seat }
-    ensures none { deque_len sessions.new.running ≡ 0 }
+    ensures none { sessions.new.running.items ≡ [] }
     ensures mine { AreOf accounts.now (map (λ h. given_of h.promise) sessions.new.running.items) }
     ensures taken { sessions.new.taken ≡ sessions.old.taken }
     ensures out { (n : ℕ) → HasOut (deque_len sessions.old.running + n) (D.told door.old) → HasOut n (D.told door.new) }
