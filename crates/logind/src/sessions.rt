@@ -122,6 +122,7 @@ pub fn join_all<K: Keeper + Drop, D: Door, W: Sink, M: Maker, R: Threads>(
     requires out { HasOut (deque_len sessions.old.running) (D.told door.old) }
     ensures own { Sits accounts.now sessions.new.seat }
     ensures none { sessions.new.running.items ≡ [] }
+    ensures empty { deque_len sessions.new.running ≡ 0 }
     ensures mine { AreOf accounts.now (map (λ h. given_of h.promise) sessions.new.running.items) }
     ensures taken { sessions.new.taken ≡ sessions.old.taken }
     ensures out { (n : ℕ) → HasOut (deque_len sessions.old.running + n) (D.told door.old) → HasOut n (D.told door.new) }
@@ -135,6 +136,75 @@ pub fn join_all<K: Keeper + Drop, D: Door, W: Sink, M: Maker, R: Threads>(
             (record { hall = D.told door.new; faults = D.fault_count door.new; output = record { written = W.written out.new; faults = W.fault_count out.new } }) sessions.new.is_cut }
 {
     'joins: while join_first::<K, D, W, M, R>(rt, accounts, sessions, door, out) {}
+}
+
+/// Joins all sessions that run, and then takes back one that was taken after them.
+pub fn take_last<K: Keeper + Drop, D: Door, W: Sink, M: Maker, R: Threads>(
+    rt: &R,
+    accounts: &SharedAccounts<K>,
+    sessions: &mut Sessions<Seat<K>, Running<K, D::Conn, M::Time, M::Random>>,
+    door: &mut D,
+    out: &mut W,
+    visited: Visited<Seat<K>, D::Conn, M::Time, M::Random>,
+)
+    requires own { Sits accounts.now sessions.old.seat }
+    requires mine { AreOf accounts.now (map (λ h. given_of h.promise) sessions.old.running.items) }
+    requires other { Sits accounts.now visited.seat }
+    requires held { HasOut (deque_len sessions.old.running) (D.told door.old) }
+    requires out { HasOut (deque_len sessions.old.running + 1) (D.told door.old) }
+    ensures own { Sits accounts.now sessions.new.seat }
+    ensures mine { AreOf accounts.now (map (λ h. given_of h.promise) sessions.new.running.items) }
+    ensures held { HasOut (deque_len sessions.new.running) (D.told door.new) }
+    ensures none { sessions.new.running.items ≡ [] }
+    ensures taken { sessions.new.taken ≡ sessions.old.taken }
+    ensures faults { D.fault_count door.new ≡ D.fault_count door.old }
+    ensures stands { (made : M.Made) (x : Edge D.Conn) (g : Given _ D.Conn M.Time M.Random) (gs : List (Given _ D.Conn M.Time M.Random)) (lost : List D.Conn)
+        → g.id ≡ visited.id
+        → M.Time.made_with visited.clock ≡ M.Time.made_with g.clock
+        → M.Random.made_with visited.draws ≡ M.Random.made_with g.draws
+        → CameBack D.Conn.told D.Conn.finished D.Conn.fault_count M.Time.given M.Random.given (began desk_start accounts.now.book) g (view visited.seat)
+            (record { came = g.link; went = visited.link; clock = visited.clock; draws = visited.draws; how = visited.how })
+        → Stands D.Conn.told D.Conn.finished D.Conn.fault_count M.Time.given M.Random.given (Passes M.Time.made_with (M.may_give_clock made)) (λ id. Passes M.Random.made_with (M.may_give_draws made id)) (began desk_start accounts.now.book) accounts.now x
+            (view sessions.old.seat) sessions.old.taken (map (λ h. given_of h.promise) sessions.old.running.items ++ (g ∷ gs)) lost (record { hall = D.told door.old; faults = D.fault_count door.old; output = record { written = W.written out.old; faults = W.fault_count out.old } }) sessions.old.is_cut
+        → Stands D.Conn.told D.Conn.finished D.Conn.fault_count M.Time.given M.Random.given (Passes M.Time.made_with (M.may_give_clock made)) (λ id. Passes M.Random.made_with (M.may_give_draws made id)) (began desk_start accounts.now.book) accounts.now x
+            (view sessions.new.seat) sessions.new.taken (map (λ h. given_of h.promise) sessions.new.running.items ++ gs) lost (record { hall = D.told door.new; faults = D.fault_count door.new; output = record { written = W.written out.new; faults = W.fault_count out.new } }) sessions.new.is_cut }
+{
+    join_all::<K, D, W, M, R>(rt, accounts, sessions, door, out);
+    take_back::<K, D, W, M>(accounts, sessions, door, out, visited);
+}
+
+/// Remembers a session that runs. Where there is no memory for that, it is joined, after all that were taken before it.
+pub fn remember<K: Keeper + Drop, D: Door, W: Sink, M: Maker, R: Threads>(
+    rt: &R,
+    accounts: &SharedAccounts<K>,
+    sessions: &mut Sessions<Seat<K>, Running<K, D::Conn, M::Time, M::Random>>,
+    door: &mut D,
+    out: &mut W,
+    handle: Running<K, D::Conn, M::Time, M::Random>,
+)
+    requires own { Sits accounts.now sessions.old.seat }
+    requires mine { AreOf accounts.now (map (λ h. given_of h.promise) sessions.old.running.items) }
+    requires its { handle.promise.accounts.value ≡ accounts.now }
+    requires held { HasOut (deque_len sessions.old.running) (D.told door.old) }
+    requires out { HasOut (deque_len sessions.old.running + 1) (D.told door.old) }
+    ensures own { Sits accounts.now sessions.new.seat }
+    ensures mine { AreOf accounts.now (map (λ h. given_of h.promise) sessions.new.running.items) }
+    ensures held { HasOut (deque_len sessions.new.running) (D.told door.new) }
+    ensures taken { sessions.new.taken ≡ sessions.old.taken }
+    ensures faults { D.fault_count door.new ≡ D.fault_count door.old }
+    ensures stands { (made : M.Made) (x : Edge D.Conn) (gs : List (Given _ D.Conn M.Time M.Random)) (lost : List D.Conn)
+        → Stands D.Conn.told D.Conn.finished D.Conn.fault_count M.Time.given M.Random.given (Passes M.Time.made_with (M.may_give_clock made)) (λ id. Passes M.Random.made_with (M.may_give_draws made id)) (began desk_start accounts.now.book) accounts.now x
+            (view sessions.old.seat) sessions.old.taken (map (λ h. given_of h.promise) sessions.old.running.items ++ (given_of handle.promise ∷ gs)) lost (record { hall = D.told door.old; faults = D.fault_count door.old; output = record { written = W.written out.old; faults = W.fault_count out.old } }) sessions.old.is_cut
+        → Stands D.Conn.told D.Conn.finished D.Conn.fault_count M.Time.given M.Random.given (Passes M.Time.made_with (M.may_give_clock made)) (λ id. Passes M.Random.made_with (M.may_give_draws made id)) (began desk_start accounts.now.book) accounts.now x
+            (view sessions.new.seat) sessions.new.taken (map (λ h. given_of h.promise) sessions.new.running.items ++ gs) lost (record { hall = D.told door.new; faults = D.fault_count door.new; output = record { written = W.written out.new; faults = W.fault_count out.new } }) sessions.new.is_cut }
+{
+    match sessions.running.push_back(handle) {
+        Ok(()) => {}
+        Err(refused) => {
+            let visited = refused.value.join(rt);
+            take_last::<K, D, W, M, R>(rt, accounts, sessions, door, out, visited);
+        }
+    }
 }
 
 /// How many sessions run at once.
