@@ -7,13 +7,14 @@ use Rattle.account_history.specs.declared.entries.Log.{Log}
 use Rattle.serve_talk.specs.Serving.{Serves}
 use Rattle.serve_talk.specs.Sides.{Extends, Side}
 use Rattle.server_outside.specs.Halls.{IsUnused, Lets, TakesBack}
+use Rattle.server_outside.specs.Making.{HasGivenNone}
 use Rattle.session_serve.specs.Siding.{entry_at, side_of}
 use Rattle.shared_accounts.specs.Beginnings.{log_of}
 use Rattle.shared_accounts.specs.Sharing.{AccountsView}
 use Rattle.shared_accounts.specs.declared.desk.Begun.{Begun}
 use Rattle.turn_book.specs.Book.{Joined}
 use Rattle.turn_book.specs.Views as views
-use Rattle.turn_book.specs.Views.{branch, entries_seen, entry_of, left, next_number, split_once}
+use Rattle.turn_book.specs.Views.{branch, entries_seen, entry_of, left, mine, next_number, right, split_once}
 use Rattle.turn_book.specs.declared.view.Branch.{Branch}
 use Rattle.turn_book.proofs.Entries.{off}
 use Rattle.logind.specs.Edges.{Edge, HasOut, LetThrough, Printed}
@@ -100,6 +101,23 @@ module _ {Conn Time Random : Type 0} (told : Conn → Option Traffic) (finished 
   all_new_more accounts id (h ∷ gs) g d n =
       let e : id + suc (length gs) ≡ suc id + length gs = omega arith in
       (d.0, all_new_more accounts (suc id) gs g d.1 (subst (λ (k : ℕ). IsNew told finished fault_count readings drawn IsClock IsDraws accounts k g) e n))
+
+  -- the session that a seat was split off for is a new one
+  pub new_one : {Shared : Type 0} (accounts : Shared) (v : AccountsView) (taken n : ℕ) (g : Given Shared Conn Time Random) → v.carried ≡ branch [] taken ∷ branches n → g.seat ≡ right v → mine g.seat ≡ []
+      → g.id ≡ suc taken → g.accounts ≡ accounts → IsUnused (told g.link) → IsClock g.clock → HasGivenNone (readings g.clock) → IsDraws g.id g.draws → HasGivenNone (drawn g.draws)
+      → IsNew told finished fault_count readings drawn IsClock IsDraws accounts (suc taken) g
+  new_one accounts v taken n g carried seat unmade id of unused clock unread draws ungiven = record {
+    id_is = id;
+    accounts_is = of;
+    carried = ap (λ (a : AccountsView). a.carried) seat ∙ ap (λ (b : List Branch). branch (next_number b) 0 ∷ []) carried;
+    unmade = unmade;
+    undrawn = ap (λ (a : AccountsView). a.drawn) seat;
+    unused = unused;
+    unread = unread;
+    ungiven = ungiven;
+    clock_is = clock;
+    draws_is = subst (λ (k : ℕ). IsDraws k g.draws) id draws;
+  }
 
   module _ (begun : Begun) {Shared : Type 0} (accounts : Shared) (x : Edge Conn) where
     abbrev Standing : AccountsView → ℕ → List (Given Shared Conn Time Random) → List Conn → Edge Conn → Bool → Type 0
@@ -224,3 +242,17 @@ module _ {Conn Time Random : Type 0} (told : Conn → Option Traffic) (finished 
           rising = st.rising;
           printed = st.printed;
         }
+
+    pub admitted : (v v' : AccountsView) (taken : ℕ) (gs : List (Given Shared Conn Time Random)) (g : Given Shared Conn Time Random) (y : Edge Conn) (cut : Bool)
+        → Standing v taken gs (g.link ∷ []) y cut → v' ≡ left v → g.seat ≡ right v → mine g.seat ≡ [] → g.id ≡ suc taken → g.accounts ≡ accounts → IsUnused (told g.link)
+        → IsClock g.clock → HasGivenNone (readings g.clock) → IsDraws g.id g.draws → HasGivenNone (drawn g.draws)
+        → Standing v' g.id (gs ++ g ∷ []) [] y cut
+    admitted v v' taken gs g y cut st is seat unmade id of unused clock unread draws ungiven =
+        subst (λ (k : ℕ). Standing v' k (gs ++ g ∷ []) [] y cut) (sym id)
+        (split_off v v' taken gs g y cut st is (new_one accounts v taken (length st.done) g st.carried seat unmade id of unused clock unread draws ungiven))
+
+    -- what is remembered
+    pub moved_on : (v : AccountsView) (taken taken' : ℕ) (gs hs : List (Given Shared Conn Time Random)) (lost : List Conn) (y z : Edge Conn) (cut : Bool) → taken' ≡ taken → gs ≡ hs → z ≡ y
+        → Standing v taken gs lost y cut → Standing v taken' hs lost z cut
+    moved_on v taken taken' gs hs lost y z cut t e o st =
+        subst (λ (k : ℕ). Standing v k hs lost z cut) (sym t) (subst (λ (w : Edge Conn). Standing v taken hs lost w cut) (sym o) (relisted v taken gs hs lost y cut e st))

@@ -2,3 +2,4 @@ pub mod Pieces
 pub mod Passing
 pub mod Numbering
 pub mod Joining
+pub mod Remembering

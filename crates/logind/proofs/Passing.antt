@@ -1,7 +1,9 @@
 -- Links that come in and are given back.
-use Rattle.std.proofs.Common.{◌≡◌, ℕ, suc, ◌+◌, ◌-◌, ◌<◌, ◌≤◌, List, [], ◌∷◌, ◌++◌, drop, length, Option, Some, None, Ok, refl, sym, ap, ◌∙◌, subst, arith, append_assoc, append-nil, length-append}
+use Rattle.std.proofs.Common.{◌≡◌, ℕ, zero, suc, ◌+◌, ◌-◌, ◌<◌, ◌≤◌, List, [], ◌∷◌, ◌++◌, drop, length, Option, Some, None, Result, Ok, Err, Bool, IfSome, refl, sym, ap, ◌∙◌, subst, arith, append_assoc, append-nil, length-append}
 use Rattle.server_outside.specs.Halls.{Hall, HasGiven, Lets, TakesBack}
-use Rattle.logind.specs.Edges.{HasOut, LetThrough}
+use Rattle.lg_outside.specs.Traffic.{Traffic}
+use Rattle.lg_outside.specs.declared.streams.Failed.{Failed}
+use Rattle.logind.specs.Edges.{AreBack, HasOut, IsBack, IsEmptied, LetThrough}
 
 module _ {Conn : Type 0} where
   pub nothing_through : (hall : Option (Hall Conn)) → LetThrough hall hall [] []
@@ -50,3 +52,22 @@ module _ {Conn : Type 0} where
   pub has_given : (y : Option (Hall Conn)) → HasOut 1 y → HasGiven y
   has_given None o = tt {0}
   has_given (Some h) o = omega arith
+
+  -- a door that gives no link leaves all that it tells as it was
+  pub none_left : (y z : Option (Hall Conn)) → Lets y z (Ok None) → (z ≡ y) × IsEmptied y
+  none_left None z l = (l, tt {0})
+  none_left (Some h) z l = (l.1, l.0)
+
+  pub left_by_fault : (y z : Option (Hall Conn)) (e : Failed) → Lets y z (Err e) → z ≡ y
+  left_by_fault None z e l = l
+  left_by_fault (Some h) z e l = l
+
+  pub emptied_back : (y z : Option (Hall Conn)) (link : Conn) → IsEmptied y → TakesBack link y z → IsEmptied z
+  emptied_back None z link e b = subst IsEmptied (sym b) (tt {0})
+  emptied_back (Some h) z link e b = subst IsEmptied (sym b) e
+
+  -- the link that can't be served is given back too
+  pub lost_back : (x y z : Option (Hall Conn)) (came went : List Conn) (lost : Option Conn) (finished : Conn → Bool) (told : Conn → Option Traffic) → LetThrough x y came went → IfSome lost (λ _. HasOut 1 y)
+      → IsBack finished told lost y z → (back : List Conn) × AreBack finished told lost back × LetThrough x z came (went ++ back)
+  lost_back x y z came went None finished told t o b = ([], refl, subst (λ w. LetThrough x z came w) (sym (append-nil went)) (subst (λ k. LetThrough x k came went) (sym b) t))
+  lost_back x y z came went (Some link) finished told t o b = (b.0 ∷ [], (b.0, refl, b.1, b.2), given_back x y z came went b.0 t o b.3)

@@ -6,7 +6,8 @@ use Rattle.lg_outside.specs.Streams.{Adds}
 use Rattle.lg_outside.specs.declared.streams.Failed.{Failed}
 use Rattle.session_talk.specs.declared.ends.SessionEnd.{SessionEnd}
 use Rattle.logind.specs.Edges.{Output, Printed, Wrote, WrotePart}
-use Rattle.logind.specs.Lines.{end_words}
+use Rattle.logind.specs.Lines.{end_words, last_line}
+use Rattle.logind.specs.declared.status.Status.{Status}
 
 rose_since : (first before after : ℕ) → first ≤ before → Rose before after → Rose first after
 rose_since first before after h r = omega arith
@@ -58,3 +59,6 @@ pub four_pieces : (x z : Output) (text one two three four : List ℕ) (r : Bool)
 four_pieces x z text one two three four r p =
     let e : ((text ++ one) ++ two) ++ three ≡ text ++ (one ++ (two ++ three)) = append_assoc (text ++ one) two three ∙ append_assoc text one (two ++ three) in
     two_pieces x z text (one ++ (two ++ three)) four r (subst (λ (l : List ℕ). Printed x z (l ++ four) r) e p)
+
+pub said_last : (x z : Output) (text : List ℕ) (why w : Status) (n : ℕ) (r : Bool) → why ≡ w → Printed x z (text ++ last_line w n) r → Printed x z (text ++ last_line why n) r
+said_last x z text why w n r e p = subst (λ (k : Status). Printed x z (text ++ last_line k n) r) (sym e) p

@@ -1,7 +1,8 @@
 -- What the door and the sink of a server tell.
-use Rattle.std.specs.Prelude.{◌≡◌, ℕ, ◌+◌, ◌≤◌, List, [], ◌++◌, length, Bool, true, false, Option, Some, None}
+use Rattle.std.specs.Prelude.{◌≡◌, ℕ, ◌+◌, ◌≤◌, List, [], ◌∷◌, ◌++◌, length, Bool, true, false, Option, Some, None}
 use Rattle.lg_outside.specs.Faults.{Rose}
-use Rattle.server_outside.specs.Halls.{Hall}
+use Rattle.lg_outside.specs.Traffic.{Traffic}
+use Rattle.server_outside.specs.Halls.{Hall, TakesBack}
 
 -- the bytes that were written to the sink, and how many faults it had
 pub record Output : Type 0 where
@@ -29,6 +30,17 @@ HasOut count (Some hall) = count ≤ hall.out
 abbrev pub IsEmptied : {Conn : Type 0} → Option (Hall Conn) → Type 0
 IsEmptied None = Unit {0}
 IsEmptied (Some hall) = hall.left ≡ []
+
+-- the links of the door before and after a link was ended and given back, if there was one
+abbrev pub IsBack : {Conn : Type 0} → (Conn → Bool) → (Conn → Option Traffic) → Option Conn → (before after : Option (Hall Conn)) → Type 0
+IsBack finished told None before after = after ≡ before
+IsBack {Conn = Conn} finished told (Some link) before after =
+    (went : Conn) × (finished went ≡ true) × (told went ≡ told link) × TakesBack went before after
+
+-- the links that went back for it
+abbrev pub AreBack : {Conn : Type 0} → (Conn → Bool) → (Conn → Option Traffic) → Option Conn → List Conn → Type 0
+AreBack finished told None back = back ≡ []
+AreBack {Conn = Conn} finished told (Some link) back = (went : Conn) × (back ≡ went ∷ []) × (finished went ≡ true) × (told went ≡ told link)
 
 -- a text was written
 abbrev pub Wrote : Option (List ℕ) → Option (List ℕ) → List ℕ → Type 0

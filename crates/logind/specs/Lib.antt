@@ -5,3 +5,4 @@ pub mod Standing
 pub mod Handles
 pub mod Statuses
 pub mod Stopping
+pub mod Running

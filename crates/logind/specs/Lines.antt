@@ -2,6 +2,8 @@
 use Rattle.std.specs.Prelude.{ℕ, true, false, List, [], ◌∷◌, ◌++◌, codes, decimal}
 use Rattle.serve_talk.specs.declared.endings.Ending.{Ending}
 use Rattle.serve_talk.specs.declared.endings.Ending.TheVariants.{Told, BookEnd}
+use Rattle.logind.specs.declared.status.Status.{Status}
+use Rattle.logind.specs.declared.status.Status.TheVariants.{Done, Usage, DoorFault, OutputFault, NoMemory, KeeperFault, BadRow, NoSeed}
 use Rattle.session_talk.specs.declared.ends.SessionEnd.{SessionEnd}
 use Rattle.session_talk.specs.declared.ends.SessionEnd.TheVariants.{Quit, PeerClosed, Refused, Bad, LinkFault, SessionLong, Memory}
 
@@ -30,3 +32,14 @@ session_line id how = codes "session " ++ decimal id ++ 32 ∷ ending_words how 
 -- the last line of a server that wasn't stopped by a fault: how many sessions it served
 unfoldable pub count_line : ℕ → List ℕ
 count_line sessions = codes "sessions " ++ decimal sessions ++ 10 ∷ []
+
+-- the last line of a server that ends for a reason after so many sessions, if it has one; that of a bad row has its key
+unfoldable pub last_line : Status → (sessions : ℕ) → List ℕ
+last_line Done sessions = count_line sessions
+last_line DoorFault sessions = codes "door fault" ++ 10 ∷ []
+last_line KeeperFault sessions = codes "keeper fault" ++ 10 ∷ []
+last_line Usage sessions = codes "usage" ++ 10 ∷ []
+last_line OutputFault sessions = []
+last_line NoMemory sessions = []
+last_line BadRow sessions = []
+last_line NoSeed sessions = []

@@ -6,6 +6,7 @@ ghost use Rattle.logind.specs.Handles.{AreOf, given_of};
 ghost use Rattle.logind.specs.Standing.{Stands};
 ghost use Rattle.logind.specs.Stopping.{IsNext, IsReason, lost_of};
 ghost use Rattle.logind.specs.Visits.{CameBack, Given, IsNew};
+ghost use Rattle.logind.specs.declared.status.Status.TheVariants.{NoMemory};
 ghost use Rattle.server_outside.specs.Halls.{IsUnused};
 ghost use Rattle.server_outside.specs.Making.{HasGivenNone, Passes};
 ghost use Rattle.shared_accounts.specs.Desks.{desk_start};
@@ -169,6 +170,7 @@ pub fn take_one<
     ensures stopped { IfSome result (λ _. sessions.new.taken ≡ sessions.old.taken) }
     ensures rising { D.fault_count door.old ≤ D.fault_count door.new }
     ensures reason { (limit : ℕ) → IfSome result (λ stop. IsReason (record { hall = D.told door.old; faults = D.fault_count door.old; output = record { written = W.written out.old; faults = W.fault_count out.old } }) (record { hall = D.told door.new; faults = D.fault_count door.new; output = record { written = W.written out.new; faults = W.fault_count out.new } }) sessions.new.is_cut sessions.new.taken limit stop.why) }
+    ensures lost_why { IfSome result (λ stop. IfSome stop.lost (λ _. stop.why ≡ NoMemory)) }
     ensures lost { IfSome result (λ stop. IfSome stop.lost (λ _. HasOut (deque_len sessions.new.running + 1) (D.told door.new))) }
     ensures stands { (x : Edge D.Conn)
         → Stands D.Conn.told D.Conn.finished D.Conn.fault_count M.Time.given M.Random.given (Passes M.Time.made_with (M.may_give_clock (M.made_with maker.old))) (λ id. Passes M.Random.made_with (M.may_give_draws (M.made_with maker.old) id)) (began desk_start accounts.now.book) accounts.now x

@@ -3,6 +3,7 @@
 
 mod admitting;
 mod printing;
+mod serving;
 mod sessions;
 mod status;
 mod stub;

@@ -1,9 +1,10 @@
 //! What the server prints. A sink that has failed is left alone.
 
 ghost use Rattle.logind.specs.Edges.{Output, Printed};
-ghost use Rattle.logind.specs.Lines.{count_line, end_words, ending_words, session_line};
-ghost use Rattle.std.specs.Prelude.{◌≡◌, ◌≤◌, ◌++◌, ◌∷◌, [], ℕ, List, decimal};
+ghost use Rattle.logind.specs.Lines.{count_line, end_words, ending_words, last_line, session_line};
+ghost use Rattle.std.specs.Prelude.{◌≡◌, ◌≤◌, ◌++◌, ◌∷◌, [], ℕ, List, decimal, true};
 
+use crate::status::Status;
 use itoa::Buffer;
 use lg_outside::Sink;
 use serve_talk::Ending;
@@ -13,6 +14,7 @@ use session_talk::SessionEnd;
 pub fn put<W: Sink>(out: &mut W, is_cut: bool, piece: &[u8]) -> bool
     ensures printed { (x : Output) (text : List ℕ) → Printed x (record { written = W.written out.old; faults = W.fault_count out.old }) text is_cut
         → Printed x (record { written = W.written out.new; faults = W.fault_count out.new }) (text ++ piece.now) result }
+    ensures cut { is_cut ≡ true → result ≡ true }
 {
     if is_cut {
         return true;
@@ -24,6 +26,7 @@ pub fn put<W: Sink>(out: &mut W, is_cut: bool, piece: &[u8]) -> bool
 fn put_number<W: Sink>(out: &mut W, is_cut: bool, number: u64) -> bool
     ensures printed { (x : Output) (text : List ℕ) → Printed x (record { written = W.written out.old; faults = W.fault_count out.old }) text is_cut
         → Printed x (record { written = W.written out.new; faults = W.fault_count out.new }) (text ++ decimal number) result }
+    ensures cut { is_cut ≡ true → result ≡ true }
 {
     let mut digits = Buffer::new();
     put(out, is_cut, digits.format(number).as_bytes())
@@ -33,6 +36,7 @@ fn put_number<W: Sink>(out: &mut W, is_cut: bool, number: u64) -> bool
 fn put_numbered<W: Sink>(out: &mut W, is_cut: bool, word: &[u8], number: u64) -> bool
     ensures printed { (x : Output) (text : List ℕ) → Printed x (record { written = W.written out.old; faults = W.fault_count out.old }) text is_cut
         → Printed x (record { written = W.written out.new; faults = W.fault_count out.new }) (text ++ (word.now ++ decimal number)) result }
+    ensures cut { is_cut ≡ true → result ≡ true }
 {
     let is_cut = put(out, is_cut, word);
     put_number(out, is_cut, number)
@@ -43,6 +47,7 @@ fn put_numbered<W: Sink>(out: &mut W, is_cut: bool, word: &[u8], number: u64) ->
 fn put_end<W: Sink>(out: &mut W, is_cut: bool, how: SessionEnd) -> bool
     ensures printed { (x : Output) (text : List ℕ) → Printed x (record { written = W.written out.old; faults = W.fault_count out.old }) text is_cut
         → Printed x (record { written = W.written out.new; faults = W.fault_count out.new }) (text ++ end_words how) result }
+    ensures cut { is_cut ≡ true → result ≡ true }
 {
     match how {
         SessionEnd::Quit => put(out, is_cut, b"quit"),
@@ -64,6 +69,7 @@ fn put_end<W: Sink>(out: &mut W, is_cut: bool, how: SessionEnd) -> bool
 fn put_ending<W: Sink>(out: &mut W, is_cut: bool, how: Ending) -> bool
     ensures printed { (x : Output) (text : List ℕ) → Printed x (record { written = W.written out.old; faults = W.fault_count out.old }) text is_cut
         → Printed x (record { written = W.written out.new; faults = W.fault_count out.new }) (text ++ ending_words how) result }
+    ensures cut { is_cut ≡ true → result ≡ true }
 {
     match how {
         Ending::Told(how) => put_end(out, is_cut, how),
@@ -75,6 +81,7 @@ fn put_ending<W: Sink>(out: &mut W, is_cut: bool, how: Ending) -> bool
 pub fn print_session<W: Sink>(out: &mut W, is_cut: bool, id: u32, how: Ending) -> bool
     ensures printed { (x : Output) (text : List ℕ) → Printed x (record { written = W.written out.old; faults = W.fault_count out.old }) text is_cut
         → Printed x (record { written = W.written out.new; faults = W.fault_count out.new }) (text ++ session_line id how) result }
+    ensures cut { is_cut ≡ true → result ≡ true }
 {
     let is_cut = put_numbered(out, is_cut, b"session ", u64::from(id));
     let is_cut = put(out, is_cut, b" ");
@@ -86,7 +93,27 @@ pub fn print_session<W: Sink>(out: &mut W, is_cut: bool, id: u32, how: Ending) -
 pub fn print_count<W: Sink>(out: &mut W, is_cut: bool, sessions: u32) -> bool
     ensures printed { (x : Output) (text : List ℕ) → Printed x (record { written = W.written out.old; faults = W.fault_count out.old }) text is_cut
         → Printed x (record { written = W.written out.new; faults = W.fault_count out.new }) (text ++ count_line sessions) result }
+    ensures cut { is_cut ≡ true → result ≡ true }
 {
     let is_cut = put_numbered(out, is_cut, b"sessions ", u64::from(sessions));
     put(out, is_cut, b"\n")
+}
+
+/// Prints the last line of a server that ends for this reason after so many sessions, and answers whether the sink has failed.
+#[tactic(auto, unfolding(crate::specs::Lines::last_line))]
+pub fn print_last<W: Sink>(out: &mut W, is_cut: bool, why: Status, sessions: u32) -> bool
+    ensures printed { (x : Output) (text : List ℕ) → Printed x (record { written = W.written out.old; faults = W.fault_count out.old }) text is_cut
+        → Printed x (record { written = W.written out.new; faults = W.fault_count out.new }) (text ++ last_line why sessions) result }
+    ensures cut { is_cut ≡ true → result ≡ true }
+{
+    match why {
+        Status::Done => print_count(out, is_cut, sessions),
+        Status::DoorFault => put(out, is_cut, b"door fault\n"),
+        Status::KeeperFault => put(out, is_cut, b"keeper fault\n"),
+        Status::Usage => put(out, is_cut, b"usage\n"),
+        Status::OutputFault => put(out, is_cut, b""),
+        Status::NoMemory => put(out, is_cut, b""),
+        Status::BadRow => put(out, is_cut, b""),
+        Status::NoSeed => put(out, is_cut, b""),
+    }
 }

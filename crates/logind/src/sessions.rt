@@ -1,6 +1,6 @@
 //! The sessions of a server, and their joins in the order of their numbers.
 
-ghost use Rattle.logind.specs.Edges.{Edge, HasOut};
+ghost use Rattle.logind.specs.Edges.{Edge, HasOut, IsEmptied};
 ghost use Rattle.logind.specs.Handles.{AreOf, given_of};
 ghost use Rattle.logind.specs.Standing.{Stands};
 ghost use Rattle.logind.specs.Visits.{CameBack, Given};
@@ -45,6 +45,8 @@ pub fn take_back<K: Keeper + Drop, D: Door, W: Sink, M: Maker>(
     ensures own { Sits accounts.now sessions.new.seat }
     ensures running { sessions.new.running ≡ sessions.old.running }
     ensures taken { sessions.new.taken ≡ sessions.old.taken }
+    ensures cut { sessions.old.is_cut ≡ true → sessions.new.is_cut ≡ true }
+    ensures emptied { IsEmptied (D.told door.old) → IsEmptied (D.told door.new) }
     ensures out { (n : ℕ) → HasOut (suc n) (D.told door.old) → HasOut n (D.told door.new) }
     ensures faults { D.fault_count door.new ≡ D.fault_count door.old }
     ensures stands { (made : M.Made) (x : Edge D.Conn) (g : Given _ D.Conn M.Time M.Random) (gs : List (Given _ D.Conn M.Time M.Random)) (lost : List D.Conn)
@@ -91,6 +93,8 @@ pub fn join_first<K: Keeper + Drop, D: Door, W: Sink, M: Maker, R: Threads>(
     ensures none { result ≡ false → deque_len sessions.new.running ≡ 0 }
     ensures empty { result ≡ false → sessions.new.running.items ≡ [] }
     ensures taken { sessions.new.taken ≡ sessions.old.taken }
+    ensures cut { sessions.old.is_cut ≡ true → sessions.new.is_cut ≡ true }
+    ensures emptied { IsEmptied (D.told door.old) → IsEmptied (D.told door.new) }
     ensures out { (n : ℕ) → HasOut (deque_len sessions.old.running + n) (D.told door.old) → HasOut (deque_len sessions.new.running + n) (D.told door.new) }
     ensures faults { D.fault_count door.new ≡ D.fault_count door.old }
     ensures stands { (made : M.Made) (x : Edge D.Conn) (gs : List (Given _ D.Conn M.Time M.Random)) (lost : List D.Conn)
@@ -125,6 +129,8 @@ pub fn join_all<K: Keeper + Drop, D: Door, W: Sink, M: Maker, R: Threads>(
     ensures empty { deque_len sessions.new.running ≡ 0 }
     ensures mine { AreOf accounts.now (map (λ h. given_of h.promise) sessions.new.running.items) }
     ensures taken { sessions.new.taken ≡ sessions.old.taken }
+    ensures cut { sessions.old.is_cut ≡ true → sessions.new.is_cut ≡ true }
+    ensures emptied { IsEmptied (D.told door.old) → IsEmptied (D.told door.new) }
     ensures out { (n : ℕ) → HasOut (deque_len sessions.old.running + n) (D.told door.old) → HasOut n (D.told door.new) }
     ensures faults { D.fault_count door.new ≡ D.fault_count door.old }
     ensures stands { (made : M.Made) (x : Edge D.Conn) (gs : List (Given _ D.Conn M.Time M.Random)) (lost : List D.Conn)

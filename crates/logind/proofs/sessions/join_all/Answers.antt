@@ -16,6 +16,8 @@ joins-preserved g c =
       held = joined.held;
       taken = joined.taken ∙ inv.taken;
       out = λ n held. joined.out n (inv.out n held);
+      cut = λ e. joined.cut (inv.cut e);
+      emptied = λ e. joined.emptied (inv.emptied e);
       faults = joined.faults ∙ inv.faults;
       stands = λ made x gs lost st. joined.stands made x gs lost (inv.stands made x gs lost st);
     }

@@ -5,6 +5,7 @@ use Rattle.turn_book.specs.Book.{began, view}
 use Rattle.logind.specs.Edges.{Printed}
 use Rattle.logind.specs.Lines.{session_line}
 use Rattle.logind.proofs.Joining.{joined}
+use Rattle.logind.proofs.Passing.{emptied_back}
 use Rattle.logind.proofs.sessions.take_back.Goals as goal
 
 pub returns-clause-stands : goal.returns-clause-stands
@@ -17,3 +18,6 @@ returns-clause-stands g c = λ made x given gs lost id clock draws came st.
     c.args.sessions.now.is_cut c.print_session-sessions.result st c.meet.ensures.joined came
     (λ other e. st.runs.0.clock_is other (e ∙ clock)) (λ other e. st.runs.0.draws_is other (e ∙ draws)) c.requires.out c.done.ensures.told c.done.ensures.faults
     (λ text p. subst (λ n. Printed x.output (record { written = g.W.Sink.written c.print_session-sessions.new.out; faults = g.W.Sink.fault_count c.print_session-sessions.new.out }) (text ++ session_line n c.args.visited.how) c.print_session-sessions.result) (sym id) (c.print_session-sessions.ensures.printed x.output text p))
+
+pub returns-clause-emptied : goal.returns-clause-emptied
+returns-clause-emptied g c = λ none. emptied_back (g.D.Door.told c.args.door.now) (g.D.Door.told c.done.new.self) c.args.visited.link none c.done.ensures.told
