@@ -22,7 +22,8 @@ use Rattle.logind.specs.Lines.{session_line}
 use Rattle.logind.specs.Standing.{Stands, came_of, link_of, session_lines, went_of}
 use Rattle.logind.specs.Visits.{AllNew, AllServed, CameBack, Given, IsFresh, IsNew, IsServed, Visit, branches, entries_by}
 use Rattle.logind.proofs.Numbering.{entries_kept, entries_taken, own_carried, session_carried}
-use Rattle.logind.proofs.Passing.{given_back, let_in}
+use Rattle.logind.proofs.Passing.{given_back, let_in, nothing_through}
+use Rattle.logind.proofs.Pieces.{wrote_nothing}
 
 -- ## Histories that go on
 
@@ -256,3 +257,32 @@ module _ {Conn Time Random : Type 0} (told : Conn → Option Traffic) (finished 
         → Standing v taken gs lost y cut → Standing v taken' hs lost z cut
     moved_on v taken taken' gs hs lost y z cut t e o st =
         subst (λ (k : ℕ). Standing v k hs lost z cut) (sym t) (subst (λ (w : Edge Conn). Standing v taken hs lost w cut) (sym o) (relisted v taken gs hs lost y cut e st))
+
+    -- a door that gave no link
+    pub passed_by : (v : AccountsView) (taken : ℕ) (gs : List (Given Shared Conn Time Random)) (lost : List Conn) (y z : Edge Conn) (cut : Bool) → z.hall ≡ y.hall → y.faults ≤ z.faults → z.output ≡ y.output
+        → Standing v taken gs lost y cut → Standing v taken gs lost z cut
+    passed_by v taken gs lost y z cut hall rising output st = record {
+      done = st.done;
+      carried = st.carried;
+      own = st.own;
+      served = st.served;
+      runs = st.runs;
+      counted = st.counted;
+      door = subst (λ h. LetThrough x.hall h (map came_of st.done ++ (map link_of gs ++ lost)) (map went_of st.done)) (sym hall) st.door;
+      rising = (let a = st.rising in omega arith);
+      printed = subst (λ o. Printed x.output o (session_lines 1 st.done) cut) (sym output) st.printed;
+    }
+
+    -- at the start none was taken
+    pub none_taken : (v : AccountsView) → v.carried ≡ branch [] 0 ∷ [] → entries_by [] v ≡ [] → Standing v 0 [] [] x false
+    none_taken v carried own = record {
+      done = [];
+      carried = carried;
+      own = own;
+      served = tt {0};
+      runs = tt {0};
+      counted = refl;
+      door = nothing_through x.hall;
+      rising = omega arith;
+      printed = (omega arith, wrote_nothing x.output.written);
+    }

@@ -3,3 +3,4 @@ pub mod Passing
 pub mod Numbering
 pub mod Joining
 pub mod Remembering
+pub mod Ending

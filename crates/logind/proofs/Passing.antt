@@ -71,3 +71,7 @@ module _ {Conn : Type 0} where
       → IsBack finished told lost y z → (back : List Conn) × AreBack finished told lost back × LetThrough x z came (went ++ back)
   lost_back x y z came went None finished told t o b = ([], refl, subst (λ w. LetThrough x z came w) (sym (append-nil went)) (subst (λ k. LetThrough x k came went) (sym b) t))
   lost_back x y z came went (Some link) finished told t o b = (b.0 ∷ [], (b.0, refl, b.1, b.2), given_back x y z came went b.0 t o b.3)
+
+  pub emptied_lost : (y z : Option (Hall Conn)) (lost : Option Conn) (finished : Conn → Bool) (told : Conn → Option Traffic) → IsBack finished told lost y z → IsEmptied y → IsEmptied z
+  emptied_lost y z None finished told b e = subst IsEmptied (sym b) e
+  emptied_lost y z (Some link) finished told b e = emptied_back y z b.0 e b.3

@@ -1,5 +1,5 @@
 -- Printing piece by piece.
-use Rattle.std.proofs.Common.{◌≡◌, ℕ, ◌≤◌, Bool, true, false, List, [], ◌∷◌, ◌++◌, take, drop, Option, Some, None, Result, Ok, Err, OnErr, is_err, refl, sym, ap, ◌∙◌, subst, arith, append_assoc}
+use Rattle.std.proofs.Common.{◌≡◌, ℕ, ◌≤◌, Bool, true, false, List, [], ◌∷◌, ◌++◌, take, drop, Option, Some, None, Result, Ok, Err, OnErr, is_err, refl, sym, ap, ◌∙◌, subst, arith, append_assoc, append-nil}
 use Rattle.std.proofs.lemmas.List.{take-append-drop}
 use Rattle.lg_outside.specs.Faults.{Rose}
 use Rattle.lg_outside.specs.Streams.{Adds}
@@ -35,6 +35,10 @@ wrote_part (Some before) b c text piece e w n =
 part_on : (a b : Option (List ℕ)) (text piece : List ℕ) → WrotePart a b text → WrotePart a b (text ++ piece)
 part_on None b text piece w = w
 part_on (Some before) b text piece w = (w.0, w.1 ++ piece, ap (λ l. l ++ piece) w.2 ∙ append_assoc w.0 w.1 piece, w.3)
+
+pub wrote_nothing : (a : Option (List ℕ)) → Wrote a a []
+wrote_nothing None = refl
+wrote_nothing (Some before) = ap (λ l. Some l) (sym (append-nil before))
 
 -- a piece more of the text, of a sink that didn't fail before
 pub piece_on : (x y z : Output) (text piece : List ℕ) (r : Result (Unit {0}) Failed) → Printed x y text false → Adds y.written z.written r piece

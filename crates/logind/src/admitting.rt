@@ -172,10 +172,10 @@ pub fn take_one<
     ensures reason { (limit : ℕ) → IfSome result (λ stop. IsReason (record { hall = D.told door.old; faults = D.fault_count door.old; output = record { written = W.written out.old; faults = W.fault_count out.old } }) (record { hall = D.told door.new; faults = D.fault_count door.new; output = record { written = W.written out.new; faults = W.fault_count out.new } }) sessions.new.is_cut sessions.new.taken limit stop.why) }
     ensures lost_why { IfSome result (λ stop. IfSome stop.lost (λ _. stop.why ≡ NoMemory)) }
     ensures lost { IfSome result (λ stop. IfSome stop.lost (λ _. HasOut (deque_len sessions.new.running + 1) (D.told door.new))) }
-    ensures stands { (x : Edge D.Conn)
-        → Stands D.Conn.told D.Conn.finished D.Conn.fault_count M.Time.given M.Random.given (Passes M.Time.made_with (M.may_give_clock (M.made_with maker.old))) (λ id. Passes M.Random.made_with (M.may_give_draws (M.made_with maker.old) id)) (began desk_start accounts.now.book) accounts.now x
+    ensures stands { (made : M.Made) (x : Edge D.Conn) → M.made_with maker.old ≡ made
+        → Stands D.Conn.told D.Conn.finished D.Conn.fault_count M.Time.given M.Random.given (Passes M.Time.made_with (M.may_give_clock made)) (λ id. Passes M.Random.made_with (M.may_give_draws made id)) (began desk_start accounts.now.book) accounts.now x
             (view sessions.old.seat) sessions.old.taken (map (λ h. given_of h.promise) sessions.old.running.items ++ []) [] (record { hall = D.told door.old; faults = D.fault_count door.old; output = record { written = W.written out.old; faults = W.fault_count out.old } }) sessions.old.is_cut
-        → Stands D.Conn.told D.Conn.finished D.Conn.fault_count M.Time.given M.Random.given (Passes M.Time.made_with (M.may_give_clock (M.made_with maker.old))) (λ id. Passes M.Random.made_with (M.may_give_draws (M.made_with maker.old) id)) (began desk_start accounts.now.book) accounts.now x
+        → Stands D.Conn.told D.Conn.finished D.Conn.fault_count M.Time.given M.Random.given (Passes M.Time.made_with (M.may_give_clock made)) (λ id. Passes M.Random.made_with (M.may_give_draws made id)) (began desk_start accounts.now.book) accounts.now x
             (view sessions.new.seat) sessions.new.taken (map (λ h. given_of h.promise) sessions.new.running.items ++ []) (lost_of result) (record { hall = D.told door.new; faults = D.fault_count door.new; output = record { written = W.written out.new; faults = W.fault_count out.new } }) sessions.new.is_cut }
 {
     make_room::<K, D, W, M, R>(rt, accounts, places, sessions, door, out);

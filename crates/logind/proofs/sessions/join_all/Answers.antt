@@ -23,9 +23,9 @@ joins-preserved g c =
     }
 
 pub returns-clause-out : goal.returns-clause-out
-returns-clause-out g c = λ n held.
+returns-clause-out g c = λ held.
     let none : deque_len c.join_first.new.sessions.running ≡ 0 = search rules in
-    fewer_out n (deque_len c.join_first.new.sessions.running + n) (g.D.Door.told c.join_first.new.door) (omega arith) (c.join_first.ensures.out n (c.joins.invariant.out n held))
+    fewer_out 1 (deque_len c.join_first.new.sessions.running + 1) (g.D.Door.told c.join_first.new.door) (omega arith) (c.join_first.ensures.out 1 (c.joins.invariant.out 1 held))
 
 pub returns-clause-stands : goal.returns-clause-stands
 returns-clause-stands g c = λ made x gs lost st.

@@ -4,9 +4,6 @@ use Rattle.logind.specs.Handles.{given_of}
 use Rattle.logind.proofs.Joining.{relisted}
 use Rattle.logind.proofs.sessions.take_last.Goals as goal
 
-pub take_back-requires-clause-out : goal.take_back-requires-clause-out
-take_back-requires-clause-out g c = c.join_all.ensures.out 1 c.requires.out
-
 pub returns-clause-stands : goal.returns-clause-stands
 returns-clause-stands g c = λ made x given gs lost id clock draws came st.
     let none : c.take_back.new.sessions.running.items ≡ [] = ap (λ q. q.items) c.take_back.ensures.running ∙ c.join_all.ensures.none in
