@@ -75,3 +75,7 @@ module _ {Conn : Type 0} where
   pub emptied_lost : (y z : Option (Hall Conn)) (lost : Option Conn) (finished : Conn → Bool) (told : Conn → Option Traffic) → IsBack finished told lost y z → IsEmptied y → IsEmptied z
   emptied_lost y z None finished told b e = subst IsEmptied (sym b) e
   emptied_lost y z (Some link) finished told b e = emptied_back y z b.0 e b.3
+
+  pub lost_out : (lost : Option Conn) (n : ℕ) (y z : Option (Hall Conn)) → (HasOut (n + 1) y → HasOut 1 z) → IfSome lost (λ _. HasOut (n + 1) y) → IfSome lost (λ _. HasOut 1 z)
+  lost_out None n y z on out = tt {0}
+  lost_out (Some link) n y z on out = on out

@@ -75,10 +75,11 @@ pub fn take_all<
             (view sessions.new.seat) sessions.new.taken (map (λ h. given_of h.promise) sessions.new.running.items ++ []) (option_to_list result.lost) (record { hall = D.told door.new; faults = D.fault_count door.new; output = record { written = W.written out.new; faults = W.fault_count out.new } }) sessions.new.is_cut }
 {
     'links: while sessions.taken < limit {
-        if let Some(stop) = take_one::<E, K, D, W, M, G, R>(
+        match take_one::<E, K, D, W, M, G, R>(
             scope, rt, alloc, accounts, gate, places, sessions, door, out, maker,
         ) {
-            return stop;
+            Some(stop) => return stop,
+            None => {}
         }
     }
     Stop {
@@ -197,4 +198,58 @@ fn serve_within<
     let status = end_all::<K, D, W, M, R>(rt, accounts, &mut sessions, door, out, stop);
     let Sessions { seat, .. } = sessions;
     Ended { seat, status }
+}
+
+/// Serves the links of a door, each session in a thread of its own, and joins them all.
+pub fn serve_all<
+    K: Keeper + Drop + Send,
+    D: Door,
+    W: Sink,
+    M: Maker,
+    G: Gate + Sync,
+    R: Threads + Wait + Sync,
+>(
+    rt: &R,
+    alloc: Global,
+    accounts: &SharedAccounts<K>,
+    gate: &G,
+    seat: Seat<K>,
+    door: &mut D,
+    out: &mut W,
+    maker: &mut M,
+    limit: u32,
+) -> Ended<Seat<K>>
+    requires own { Sits accounts.now seat }
+    requires first { (view seat).carried ≡ branch [] 0 ∷ [] }
+    requires none { entries_by [] (view seat) ≡ [] }
+    requires seeded { M.seeded maker.old ≡ true }
+    ensures own { Sits accounts.now result.seat }
+    ensures ran { Ran D.Conn.told D.Conn.finished D.Conn.fault_count M.Time.given M.Random.given (Passes M.Time.made_with (M.may_give_clock (M.made_with maker.old))) (λ id. Passes M.Random.made_with (M.may_give_draws (M.made_with maker.old) id)) (began desk_start accounts.now.book) (record { hall = D.told door.old; faults = D.fault_count door.old; output = record { written = W.written out.old; faults = W.fault_count out.old } }) (view result.seat) limit (record { hall = D.told door.new; faults = D.fault_count door.new; output = record { written = W.written out.new; faults = W.fault_count out.new } }) result.status }
+    ensures made { M.made_with maker.new ≡ M.made_with maker.old }
+    ensures makes { M.fault_count maker.new ≡ M.fault_count maker.old }
+{
+    let places = AtomicU64::new(0);
+    let (ended, _door, _out, _maker) = thread::scope(
+        thread::scope_env(),
+        rt,
+        |scope| -> (Ended<Seat<K>>, &mut D, &mut W, &mut M)
+            requires own { Sits accounts.now seat }
+            requires first { (view seat).carried ≡ branch [] 0 ∷ [] }
+            requires none { entries_by [] (view seat) ≡ [] }
+            requires seeded { M.seeded maker.now ≡ true }
+            ensures own { Sits accounts.entry.now result.0.seat }
+            ensures ran { Ran D.Conn.told D.Conn.finished D.Conn.fault_count M.Time.given M.Random.given (Passes M.Time.made_with (M.may_give_clock (M.made_with maker.entry.now))) (λ id. Passes M.Random.made_with (M.may_give_draws (M.made_with maker.entry.now) id)) (began desk_start accounts.entry.now.book) (record { hall = D.told door.entry.now; faults = D.fault_count door.entry.now; output = record { written = W.written out.entry.now; faults = W.fault_count out.entry.now } }) (view result.0.seat) limit (record { hall = D.told result.1.now; faults = D.fault_count result.1.now; output = record { written = W.written result.2.now; faults = W.fault_count result.2.now } }) result.0.status }
+            ensures made { M.made_with result.3.now ≡ M.made_with maker.entry.now }
+            ensures makes { M.fault_count result.3.now ≡ M.fault_count maker.entry.now }
+            ensures door { result.1.ghost_name ≡ door.entry.ghost_name }
+            ensures out { result.2.ghost_name ≡ out.entry.ghost_name }
+            ensures maker { result.3.ghost_name ≡ maker.entry.ghost_name }
+        {
+            let ended = serve_within::<_, K, D, W, M, G, R>(
+                scope, rt, alloc, accounts, gate, &places, seat, door, out, maker, limit,
+            );
+            (ended, door, out, maker)
+        },
+    );
+    ended
 }

@@ -1,4 +1,4 @@
-use Rattle.std.proofs.Common.{[], ◌∷◌, ◌++◌, map, refl, subst, sym}
+use Rattle.std.proofs.Common.{◌+◌, [], ◌∷◌, ◌++◌, map, refl, subst, sym}
 use Rattle.server_outside.specs.Making.{Passes}
 use Rattle.shared_accounts.specs.Desks.{desk_start}
 use Rattle.turn_book.specs.Book.{began, view}
@@ -20,7 +20,7 @@ returns-in-Came-clause-stands g c = λ made x is st.
     let n = c.in-Came.ensures.next in
     let st2 = came_in g.D.Conn.Link.told g.D.Conn.Link.finished g.D.Conn.Link.fault_count g.M.Time.Clock.given g.M.Random.Draws.given (Passes g.M.Time.Clock.made_with (g.M.Maker.may_give_clock made)) (λ id. Passes g.M.Random.Draws.made_with (g.M.Maker.may_give_draws made id)) (began desk_start c.args.accounts.now.book) c.args.accounts.now x (view room.sessions.seat) room.sessions.taken gs c.in-Came.link y z room.sessions.is_cut st1 n.0.lets c.in-Came.ensures.rising refl in
     c.admit.ensures.stands made x n.0.unused (subst (λ m. Passes g.M.Time.Clock.made_with (g.M.Maker.may_give_clock m) c.in-Came.clock) is n.1) n.2
-    (subst (λ m. Passes g.M.Random.Draws.made_with (g.M.Maker.may_give_draws m _) c.in-Came.draws) is n.3) n.4 st2
+    (subst (λ m. Passes g.M.Random.Draws.made_with (g.M.Maker.may_give_draws m (room.sessions.taken + 1)) c.in-Came.draws) is n.3) n.4 st2
 
 pub returns-in-Unmade-clause-stands : goal.returns-in-Unmade-clause-stands
 returns-in-Unmade-clause-stands g c = λ made x is st.
