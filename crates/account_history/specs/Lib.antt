@@ -12,6 +12,7 @@ pub mod Naming
 pub mod Numbers
 pub mod Options
 pub mod Passwords
+pub mod Pasts
 pub mod Preparing
 pub mod Privileges
 pub mod Records

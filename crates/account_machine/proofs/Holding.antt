@@ -29,7 +29,7 @@ use Rattle.account_history.proofs.Soundness.{all-changed, all-without, keeps-all
 use Rattle.account_machine.specs.Executing.{NextFits}
 use Rattle.account_machine.specs.Fitting.{FitsAt}
 use Rattle.account_machine.specs.Labels.{HasFewLabels}
-use Rattle.account_machine.specs.Pasts.{HasSetPast}
+use Rattle.account_history.specs.Pasts.{HasSetPast}
 use Rattle.account_machine.proofs.Fitted.{change-fits, created-fits, options-fits}
 use Rattle.account_machine.proofs.Found.{all-found}
 

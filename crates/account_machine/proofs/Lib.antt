@@ -12,7 +12,6 @@ mod Places
 mod Raised
 mod Recorded
 mod Raises
-mod Refusing
 mod Renumbered
 mod Replaced
 mod Restarted

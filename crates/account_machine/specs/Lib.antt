@@ -10,7 +10,6 @@ pub mod Labels
 pub mod Loading
 pub mod Looks
 pub mod Openings
-pub mod Pasts
 pub mod Restarts
 pub mod Rows
 pub mod SoundStarts

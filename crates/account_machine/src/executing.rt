@@ -14,9 +14,9 @@ ghost use Rattle.lg_outside.specs.Faults.{Rose};
 ghost use Rattle.lg_outside.specs.Keeping.{put_row, remove_row};
 ghost use Rattle.std.specs.Prelude.{◌≡◌, ◌≤◌, ◌<◌, ◌^◌, ◌+◌, ◌++◌, ◌∷◌, [], length, map, true, false, is_some, IfSome, Some, None, IfOk, OnErr, ℕ, if◌then◌else◌};
 
-use crate::effects::{begun_account, change, copy_account, grant, labels_of, revoke, set_password};
+use account_history::effects::{begun_account, change, copy_account, grant, labels_of, revoke, set_password};
 use crate::keeping::{add, replace, take_away};
-use crate::options::{clear_failures, set_options};
+use account_history::options::{clear_failures, set_options};
 use crate::rows::Row;
 use crate::targets::find_target;
 use account_rules::Account;

@@ -13,6 +13,7 @@ ghost use Rattle.std.specs.Prelude.{◌≡◌, ◌<◌, ◌^◌, ℕ, List, IfOk
 use crate::rows::{Row, find_in_force, is_account_at, primary, secondary};
 use crate::stamps::Stamps;
 use account_history::Who;
+use account_history::copies::{copy_labels, copy_name, copy_past};
 use account_rules::Account;
 use digest_cache::Digests;
 use factor_chain::{InForce, Look, PastRecord};
@@ -31,32 +32,6 @@ pub fn find_numbered(rows: &[Row], id: u64) -> Option<usize>
     ensures { result ≡ place_numbered rows.now id }
 {
     rows.iter().position(|row| row.account.id == id)
-}
-
-pub fn copy_name(alloc: Global, name: &Name) -> Result<Name, Memory>
-    ensures { IfOk result (λ made. made ≡ name.now) }
-{
-    Ok(Name {
-        user: Bytes::copy(alloc, name.user.as_slice())?,
-        host: name.host,
-    })
-}
-
-pub fn copy_labels(alloc: Global, labels: &Items<Bytes>) -> Result<Items<Bytes>, Memory>
-    ensures { IfOk result (λ made. made ≡ labels.now) }
-{
-    let all = labels.as_slice();
-    let mut made = Items::new(alloc);
-    for label in all {
-        made.push(Bytes::copy(alloc, label.as_slice())?)?;
-    }
-    Ok(made)
-}
-
-pub fn copy_past(alloc: Global, past: &Items<PastRecord>) -> Result<Items<PastRecord>, Memory>
-    ensures { IfOk result (λ made. made ≡ past.now) }
-{
-    Ok(Items::from_vec(Vec::from_slice(alloc, past.as_slice())?))
 }
 
 /// An account as a look shows it, with its past passwords or without.

@@ -3,13 +3,13 @@
 ghost use Rattle.account_history.specs.Targets.{is_named_by, is_target, target_of};
 ghost use Rattle.account_history.specs.Refusals.{first_refusal};
 ghost use Rattle.account_machine.specs.Looks.{accounts_of};
-ghost use Rattle.account_machine.specs.Pasts.{HasSetPast};
+ghost use Rattle.account_history.specs.Pasts.{HasSetPast};
 ghost use Rattle.account_machine.specs.Targets.{place_of_target};
 ghost use Rattle.std.specs.List.{All};
 ghost use Rattle.std.specs.Prelude.{◌≡◌, IfOk};
 
 use crate::looks::{account_at, find_numbered};
-use crate::refusals::refusal_of;
+use account_history::refusals::refusal_of;
 use crate::rows::{Row, is_account_at};
 use account_rules::{Account, Settings};
 use lg_base::{Code, Memory, Name};

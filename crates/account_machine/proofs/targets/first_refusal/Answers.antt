@@ -4,7 +4,7 @@ use Rattle.account_history.specs.Naming.{has_id}
 use Rattle.account_history.specs.Refusals.{first_of, refusals}
 use Rattle.account_history.specs.Targets.{is_named_by, target_of}
 use Rattle.account_machine.specs.Looks.{account_at, accounts_of}
-use Rattle.account_machine.specs.Pasts.{HasSetPast}
+use Rattle.account_history.specs.Pasts.{HasSetPast}
 use Rattle.account_machine.proofs.Found.{all-found, found-in}
 use Rattle.account_machine.proofs.targets.first_refusal.Goals as goal
 

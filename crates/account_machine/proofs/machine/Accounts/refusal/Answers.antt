@@ -7,7 +7,7 @@ use Rattle.account_history.specs.Histories.{history, moment, start_of}
 use Rattle.account_history.specs.Records.{records}
 use Rattle.account_history.specs.Refusals.{first_refusal}
 use Rattle.account_machine.specs.Looks.{accounts_of}
-use Rattle.account_machine.specs.Pasts.{HasSetPast}
+use Rattle.account_history.specs.Pasts.{HasSetPast}
 use Rattle.account_machine.proofs.Committed.{accounts-kept}
 use Rattle.account_machine.proofs.Holding.{set-of}
 use Rattle.account_machine.proofs.machine.Accounts.refusal.Goals as goal

@@ -8,13 +8,13 @@ ghost use Rattle.account_history.specs.Refusals.{attempts_fit, auth_in, auth_of,
 ghost use Rattle.account_history.specs.Targets.{of_account};
 ghost use Rattle.factor_chain.specs.Checking.{is_empty};
 ghost use Rattle.password_history.specs.Reuse.{forbidden, is_full};
-ghost use Rattle.account_machine.specs.Pasts.{HasSetPast};
+ghost use Rattle.account_history.specs.Pasts.{HasSetPast};
 ghost use Rattle.account_rules.specs.declared.accounts.Account.{Account};
 ghost use Rattle.password_history.specs.Laws.{AreSet};
 ghost use Rattle.std.specs.Prelude.{◌≡◌, ◌==◌, ◌&&◌, ◌||◌, not, true, drop, length, IfOk, option_copied, IfSome, ℕ, Option, Some, None};
 
-use account_history::passwords::{is_empty, is_method, is_same, method_after, method_named};
-use account_history::setting::{auth_of, new_password, password_of};
+use crate::passwords::{is_empty, is_method, is_same, method_after, method_named};
+use crate::setting::{auth_of, new_password, password_of};
 use account_rules::{Account, Limit, Settings};
 use factor_chain::Method;
 use lg_base::{Bytes, Code, Host, Memory, Name, Operation};

@@ -1,6 +1,6 @@
 use Rattle.std.proofs.Common.{◌∙◌, sym}
-use Rattle.account_machine.proofs.Refusing.{passed}
-use Rattle.account_machine.proofs.refusals.refusal_of_change.Goals as goal
+use Rattle.account_history.proofs.Refusing.{passed}
+use Rattle.account_history.proofs.refusals.refusal_of_change.Goals as goal
 
 pub returns : goal.returns
 returns c actor own =

@@ -1,7 +1,7 @@
 use Rattle.std.proofs.Common.{◌∙◌, ap, sym, option_map, option_copied}
 use Rattle.lg_base.specs.declared.errors.Code.TheVariants.{NoMethod}
-use Rattle.account_machine.proofs.Refusing.{passed, passed-none}
-use Rattle.account_machine.proofs.refusals.refusal_of.Goals as goal
+use Rattle.account_history.proofs.Refusing.{passed, passed-none}
+use Rattle.account_history.proofs.refusals.refusal_of.Goals as goal
 
 pub returns : goal.returns
 returns c =

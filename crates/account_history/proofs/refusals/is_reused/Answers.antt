@@ -2,7 +2,7 @@ use Rattle.std.proofs.Common.{◌∙◌, ap, ℕ, Bool, List}
 use Rattle.account_history.specs.Refusals.{history_limit, reuse_limit}
 use Rattle.factor_chain.specs.declared.credentials.PastRecord.{PastRecord}
 use Rattle.password_history.specs.Reuse.{forbidden_by, used_of}
-use Rattle.account_machine.proofs.refusals.is_reused.Goals as goal
+use Rattle.account_history.proofs.refusals.is_reused.Goals as goal
 
 pub returns : goal.returns
 returns c =

@@ -3,7 +3,7 @@ use Rattle.account_history.specs.Passwords.{identified, method_after, password_o
 use Rattle.account_rules.specs.declared.accounts.Account.{Account}
 use Rattle.factor_chain.specs.declared.credentials.Method.{Method}
 use Rattle.factor_chain.specs.declared.credentials.Stored.{Stored}
-use Rattle.account_machine.proofs.effects.set_password.Goals as goal
+use Rattle.account_history.proofs.effects.set_password.Goals as goal
 
 pub returns : goal.returns
 returns c =

@@ -1,5 +1,5 @@
 use Rattle.std.proofs.Common.{◌≡◌, take}
-use Rattle.account_machine.proofs.looks.copy_labels.Given as goal
+use Rattle.account_history.proofs.copies.copy_labels.Given as goal
 
 abbrev pub invariant-loop-label : goal.invariant-loop-label
 invariant-loop-label l = l.made ≡ take l.label-index l.all

@@ -7,10 +7,10 @@ ghost use Rattle.account_history.specs.Refusals.{auth_in, new_password_in};
 ghost use Rattle.std.specs.Prelude.{◌≡◌, ◌+◌, ◌-◌, ◌<◌, ◌≤◌, true, false, length, map, slice_set, take, IfOk, OnOk};
 ghost use Rattle.account_rules.specs.declared.accounts.Account.{Account};
 
-use crate::looks::{copy_labels, copy_name, copy_past};
+use crate::copies::{copy_labels, copy_name, copy_past};
 use crate::options::set_options;
-use account_history::passwords::{is_empty, is_method, method_after, stored_of};
-use account_history::setting::password_of;
+use crate::passwords::{is_empty, is_method, method_after, stored_of};
+use crate::setting::password_of;
 use account_rules::{Account, Lifetime, Limit};
 use factor_chain::{Method, PastRecord, Stored};
 use lg_base::{Bytes, Items, Memory, Name};
