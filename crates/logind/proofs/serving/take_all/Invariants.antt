@@ -1,0 +1,30 @@
+use Rattle.std.proofs.Common.{◌≡◌, ◌≤◌, ◌-◌, List, [], ◌++◌, map, true}
+use Rattle.std.specs.VecDeque.{deque_len}
+use Rattle.server_outside.specs.Making.{Passes}
+use Rattle.shared_accounts.specs.Desks.{desk_start}
+use Rattle.shared_accounts.specs.Sharing.{Sits}
+use Rattle.turn_book.specs.Book.{began, view}
+use Rattle.logind.specs.Edges.{Edge, HasOut}
+use Rattle.logind.specs.Handles.{AreOf, given_of}
+use Rattle.logind.specs.Standing.{Stands}
+use Rattle.logind.proofs.serving.take_all.Given as goal
+
+abbrev pub invariant-links : goal.invariant-links
+invariant-links g l = record {
+  own : Sits l.fn.accounts l.sessions.seat;
+  mine : AreOf l.fn.accounts (map (λ h. given_of h.promise) l.sessions.running.items);
+  held : HasOut (deque_len l.sessions.running) (g.D.Door.told l.door);
+  seeded : g.M.Maker.seeded l.maker ≡ true;
+  made : g.M.Maker.made_with l.maker ≡ g.M.Maker.made_with l.fn.maker;
+  makes : g.M.Maker.fault_count l.maker ≡ g.M.Maker.fault_count l.fn.maker;
+  few : l.sessions.taken ≤ l.fn.limit;
+  rising : g.D.Door.fault_count l.fn.door ≤ g.D.Door.fault_count l.door;
+  stands : (x : Edge _)
+      → Stands g.D.Conn.Link.told g.D.Conn.Link.finished g.D.Conn.Link.fault_count g.M.Time.Clock.given g.M.Random.Draws.given (Passes g.M.Time.Clock.made_with (g.M.Maker.may_give_clock (g.M.Maker.made_with l.fn.maker))) (λ id. Passes g.M.Random.Draws.made_with (g.M.Maker.may_give_draws (g.M.Maker.made_with l.fn.maker) id)) (began desk_start l.fn.accounts.book) l.fn.accounts x (view l.fn.sessions.seat) l.fn.sessions.taken (map (λ h. given_of h.promise) l.fn.sessions.running.items ++ []) []
+      (record { hall = g.D.Door.told l.fn.door; faults = g.D.Door.fault_count l.fn.door; output = record { written = g.W.Sink.written l.fn.out; faults = g.W.Sink.fault_count l.fn.out } }) l.fn.sessions.is_cut
+      → Stands g.D.Conn.Link.told g.D.Conn.Link.finished g.D.Conn.Link.fault_count g.M.Time.Clock.given g.M.Random.Draws.given (Passes g.M.Time.Clock.made_with (g.M.Maker.may_give_clock (g.M.Maker.made_with l.fn.maker))) (λ id. Passes g.M.Random.Draws.made_with (g.M.Maker.may_give_draws (g.M.Maker.made_with l.fn.maker) id)) (began desk_start l.fn.accounts.book) l.fn.accounts x (view l.sessions.seat) l.sessions.taken (map (λ h. given_of h.promise) l.sessions.running.items ++ []) []
+      (record { hall = g.D.Door.told l.door; faults = g.D.Door.fault_count l.door; output = record { written = g.W.Sink.written l.out; faults = g.W.Sink.fault_count l.out } }) l.sessions.is_cut;
+}
+
+abbrev pub decreases-links : goal.decreases-links
+decreases-links g l = l.fn.limit - l.sessions.taken
