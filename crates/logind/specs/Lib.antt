@@ -6,3 +6,4 @@ pub mod Handles
 pub mod Statuses
 pub mod Stopping
 pub mod Running
+pub mod Starting

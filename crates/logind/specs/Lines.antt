@@ -43,3 +43,7 @@ last_line OutputFault sessions = []
 last_line NoMemory sessions = []
 last_line BadRow sessions = []
 last_line NoSeed sessions = []
+
+-- the line of a bad row
+unfoldable pub bad_row_line : (key : ℕ) → List ℕ
+bad_row_line key = codes "bad row " ++ decimal key ++ 10 ∷ []

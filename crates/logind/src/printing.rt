@@ -1,7 +1,7 @@
 //! What the server prints. A sink that has failed is left alone.
 
 ghost use Rattle.logind.specs.Edges.{Output, Printed};
-ghost use Rattle.logind.specs.Lines.{count_line, end_words, ending_words, last_line, session_line};
+ghost use Rattle.logind.specs.Lines.{bad_row_line, count_line, end_words, ending_words, last_line, session_line};
 ghost use Rattle.std.specs.Prelude.{◌≡◌, ◌≤◌, ◌++◌, ◌∷◌, [], ℕ, List, decimal, true};
 
 use crate::status::Status;
@@ -116,4 +116,14 @@ pub fn print_last<W: Sink>(out: &mut W, is_cut: bool, why: Status, sessions: u32
         Status::BadRow => put(out, is_cut, b""),
         Status::NoSeed => put(out, is_cut, b""),
     }
+}
+
+/// Prints the line of a bad row, and answers whether the sink has failed.
+pub fn put_bad_row<W: Sink>(out: &mut W, is_cut: bool, key: u64) -> bool
+    ensures printed { (x : Output) (text : List ℕ) → Printed x (record { written = W.written out.old; faults = W.fault_count out.old }) text is_cut
+        → Printed x (record { written = W.written out.new; faults = W.fault_count out.new }) (text ++ bad_row_line key) result }
+    ensures cut { is_cut ≡ true → result ≡ true }
+{
+    let is_cut = put_numbered(out, is_cut, b"bad row ", key);
+    put(out, is_cut, b"\n")
 }
