@@ -1,13 +1,16 @@
 -- How a session begins.
-use Rattle.std.proofs.Common.{◌≡◌, refl, sym, ap, ◌∙◌, subst, IsTrue, ℕ, ◌+◌, ◌*◌, ◌≤◌, ◌^◌, List, [], ◌∷◌, ◌++◌, Option, append-nil, arith}
+use Rattle.std.proofs.Common.{◌≡◌, refl, sym, ap, ◌∙◌, subst, IsTrue, ℕ, ◌+◌, ◌*◌, ◌≤◌, ◌^◌, List, [], ◌∷◌, ◌++◌, Option, None, append-nil, arith}
 use Rattle.lg_outside.specs.Traffic.{Traffic}
 use Rattle.link_packets.specs.Reading.{between, longest_packet}
 use Rattle.serve_talk.specs.Fitting.{Fits, Held as Holding, most_packets, nothing_held}
-use Rattle.serve_talk.specs.Paths.{Anything, Halts, Loose, Point, Turned, Wrote, ahead, from, nothing_loose, over, standing, unsaid}
+use Rattle.serve_talk.specs.Paths.{Anything, Halts, Leads, Loose, Point, Turned, Wrote, ahead, from, nothing_loose, over, standing, unsaid}
 use Rattle.serve_talk.specs.Sides.{Grew, Moment, Side, nonces_in, none}
 use Rattle.serve_talk.specs.declared.endings.Ending.{Ending}
 use Rattle.serve_talk.proofs.Fitted.{sessions_fit}
 use Rattle.serve_talk.proofs.Grown.{gave_none, grew_none}
+use Rattle.serve_talk.proofs.Walked.{leads_more, leads_none}
+use Rattle.packet_frame.specs.Framing.{Framing}
+use Rattle.session_serve.specs.declared.holding.Paper.TheVariants as paper
 use Rattle.server_outside.specs.Telling.{Gave}
 use Rattle.session_talk.specs.Doable.{AsksWell}
 use Rattle.session_talk.specs.Logins as login
@@ -129,3 +132,24 @@ module _ (session : Session) (id : ℕ) (is : stands_of session ≡ beginning id
       unsaid (input.Start nonce) started (record { over = []; unwritten = unwritten }) how
       (start_turned started (record { over = []; unwritten = unwritten }) refl refl refl refl refl (record { text = text; moved = moved; due_is = sym due_same ∙ due })) refl cause
       (idle_nothing (asked started.next started.at) 0)
+
+-- ## The first turn
+
+pub stands_begin : (session : Session) (id : ℕ) → talk_of_session session ≡ login.session id → next_of session ≡ 0 → stands_of session ≡ beginning id
+stands_begin session id talk next =
+    ap (λ (n : ℕ). let s : Standing = record { next = n; at = talk_of_session session } in s) next
+    ∙ ap (λ (t : SessionTalk). let s : Standing = record { next = 0; at = t } in s) talk
+
+pub newly_held : (h : Held) → h ≡ record { paper = paper.Nothing; account = None; packets = 1048579; calls = 0 } → IsNewlyHeld h
+newly_held h is = (ap (λ (x : Held). held_of x) is, (ap (λ (x : Held). x.packets) is, ap (λ (x : Held). x.calls) is))
+
+pub ready_first : (begun : Begun) (id : ℕ) (x : Moment) (session : Session) (frames : Framing) (h : Held) (link : Option Traffic) (side : Side) (asks : Ask) →
+    Begins begun id x session link side asks → frames ≡ between 0 0 → IsNewlyHeld h → IsReady session frames h asks
+ready_first begun id x session frames h link side asks begins is new =
+    subst (λ (v : Framing). IsReady session v h asks) (sym is) (begins.ready h new)
+
+pub leads_first : (begun : Begun) (id : ℕ) (x : Moment) (session : Session) (frames : Framing) (h : Held) (link : Option Traffic) (side : Side) (asks : Ask) →
+    Begins begun id x session link side asks → frames ≡ between 0 0 → IsNewlyHeld h → Leads (from id x) (point_of session frames h link side)
+leads_first begun id x session frames h link side asks begins is new =
+    subst (λ (v : Framing). Leads (from id x) (point_of session v h link side)) (sym is)
+    (leads_more (from id x) (from id x) (point_of session (between 0 0) h link side) begins.given (leads_none (from id x)) (begins.turned h new.2))
