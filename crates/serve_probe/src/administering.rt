@@ -1,0 +1,74 @@
+//! The account statements of root.
+
+ghost use Rattle.account_history.specs.Sound.{IsWritten};
+ghost use Rattle.shared_accounts.specs.Sharing.{Sits};
+ghost use Rattle.std.specs.Prelude.{◌≡◌, IfOk};
+
+use account_history::laws::accounts_are_sound;
+use account_history::prepare;
+use account_keeper::MemoryKeeper;
+use server_outside::{CountedDraws, Draws};
+use shared_accounts::{Committed, Seat, SharedAccounts};
+use std::alloc::Global;
+use std::sync::Wait;
+use stmt_rules::Statement;
+use stmt_syntax::{SyntaxFault, read};
+use world_table::statements::{has_by, is_preparable, no_salt, who_of};
+
+/// The number of `'root'@'localhost'`.
+const ROOT: u64 = 1;
+
+/// The statement of a text.
+fn statement_of(alloc: Global, text: &[u8]) -> Result<Statement, SyntaxFault>
+    ensures { IfOk result IsWritten }
+{
+    accounts_are_sound();
+    let statement = read(alloc, text)?;
+    Ok(statement)
+}
+
+/// Whether a statement was answered.
+fn is_answered(committed: Committed) -> Option<()> {
+    match committed {
+        Committed::Done(_reply) => Some(()),
+        Committed::Stale(_late, _statement) => None,
+        Committed::Memory => None,
+        Committed::BookEnd => None,
+    }
+}
+
+/// Executes the statement of a text; a text that is none changes nothing. `None` where it isn't answered.
+pub fn administer<R: Wait>(
+    rt: &R,
+    alloc: Global,
+    shared: &SharedAccounts<MemoryKeeper>,
+    seat: &mut Seat<MemoryKeeper>,
+    draws: &mut CountedDraws,
+    text: &[u8],
+    reading: u64,
+) -> Option<()>
+    requires own { Sits shared.now seat.old }
+    ensures own { Sits shared.now seat.new }
+{
+    let Ok(statement) = statement_of(alloc, text) else {
+        return Some(());
+    };
+    if !is_preparable(&statement) {
+        return is_answered(shared.commit_plain(rt, alloc, seat, statement, ROOT, reading));
+    }
+    let Ok(who) = who_of(alloc, ROOT, &statement) else {
+        return None;
+    };
+    let Ok((look, ticket)) = shared.observe(rt, alloc, seat, &who) else {
+        return None;
+    };
+    let salt = if has_by(&statement) {
+        draws.draw()
+    } else {
+        no_salt()
+    };
+    let Ok(prepared) = prepare(alloc, look, statement, &salt, ROOT) else {
+        return None;
+    };
+    is_answered(shared.commit(rt, alloc, seat, ticket, prepared, ROOT, reading))
+}
