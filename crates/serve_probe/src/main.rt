@@ -22,10 +22,12 @@ mod serving;
 
 use cases::{Fault, run_case};
 use lg_base::Out;
-use std::io;
+use std::alloc::AllocGlobal;
+use std::io::{self, Print};
+use std::sync::Wait;
 
 /// Runs a case, and prints what comes of it.
-fn answer(rt: &HostRuntime, calls: &str, text: Out) -> io::Result<()> {
+fn answer<R: Print + AllocGlobal + Wait>(rt: &R, calls: &str, text: Out) -> io::Result<()> {
     let alloc = rt.alloc();
     let mut out = Out::new(alloc);
     match run_case(rt, alloc, calls, text.as_slice(), &mut out) {
