@@ -76,7 +76,9 @@ fn happen<R: Wait>(
         Event::Clock { reading } => Ok(peer.read_clock(*reading)?),
         Event::Admin { text } => {
             let reading = peer.reading;
-            administer(rt, alloc, shared, seat, draws, text.as_slice(), reading).ok_or(Fault::Memory)
+            administer(rt, alloc, shared, seat, draws, text.as_slice(), reading).ok_or(
+                Fault::Memory,
+            )
         }
         Event::Open { session } => Ok(peer.begin(alloc, *session)?),
         Event::FromPeer { bytes, .. } => Ok(peer.send(bytes.as_slice())?),
@@ -105,7 +107,9 @@ pub fn run_case<R: Wait>(
     let mut draws = CountedDraws::new();
     let mut peer = Peer::new(alloc);
     for event in script.events() {
-        happen(rt, alloc, &shared, &mut seat, &mut draws, calls, &mut peer, event, out)?;
+        happen(
+            rt, alloc, &shared, &mut seat, &mut draws, calls, &mut peer, event, out,
+        )?;
     }
     Ok(())
 }
