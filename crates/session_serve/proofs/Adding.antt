@@ -1,8 +1,8 @@
 -- What a call of the shared accounts changes of a session's own side.
-use Rattle.std.proofs.Common.{◌≡◌, refl, sym, ap, ◌∙◌, subst, ℕ, ◌+◌, ◌≤◌, true, List, [], ◌∷◌, ◌++◌, map, Option, Some, None, IsSome, find, append_assoc, append-nil, arith}
+use Rattle.std.proofs.Common.{◌≡◌, sym, ap, ◌∙◌, subst, ℕ, List, [], ◌∷◌, ◌++◌, map, Option, Some, None, IsSome, find, append_assoc, append-nil}
 use Rattle.std.proofs.lemmas.List.{map-append}
 use Rattle.std.proofs.lemmas.List.Elements.{Contains-append_left}
-use Rattle.account_history.specs.Histories.{history, noted}
+use Rattle.account_history.specs.Histories.{history}
 use Rattle.account_history.specs.Records.{has_id, records}
 use Rattle.account_history.specs.declared.entries.Entry.{Entry}
 use Rattle.account_history.specs.declared.entries.Entry.TheVariants.{Attempted, Executed, Observed}
@@ -12,16 +12,16 @@ use Rattle.account_history.specs.declared.entries.Who.TheVariants.{Login, Accoun
 use Rattle.factor_chain.specs.declared.credentials.Look.{Look}
 use Rattle.serve_talk.specs.Fitting as fitting
 use Rattle.serve_talk.specs.Fitting.{MayLook}
-use Rattle.serve_talk.specs.Sides.{AreAmong, Extends, GaveAll, Grew, Side, none, passed, readings_in, taken}
-use Rattle.serve_talk.proofs.Grown.{gave_none, grew_none}
+use Rattle.serve_talk.specs.Sides.{AreAmong, Extends, GaveAll, Grew, none, passed, readings_in, taken}
+use Rattle.serve_talk.proofs.Grown.{gave_none}
 use Rattle.server_outside.specs.Telling.{Gave}
-use Rattle.session_serve.specs.Holding.{HasAccount, HasPaper, Keeps}
+use Rattle.session_serve.specs.Holding.{HasAccount, HasPaper}
 use Rattle.session_serve.specs.Siding.{entries_made, entry_at, side_of}
 use Rattle.shared_accounts.specs.Beginnings.{log_of}
-use Rattle.shared_accounts.specs.Sharing.{AccountsView, Added, HasLook, HasStood, NothingAdded, OwnHasStood}
+use Rattle.shared_accounts.specs.Sharing.{AccountsView, Added, HasStood, NothingAdded, OwnHasStood}
 use Rattle.shared_accounts.specs.declared.desk.Begun.{Begun}
 use Rattle.turn_book.specs.Book.{Ended}
-use Rattle.turn_book.specs.Views.{entries_seen, mine, number_of, signed}
+use Rattle.turn_book.specs.Views.{entries_seen, mine}
 use Rattle.turn_book.specs.declared.view.Made.{Made}
 
 -- ## What is told

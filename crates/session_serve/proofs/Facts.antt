@@ -1,11 +1,11 @@
 -- Facts of salts, of statements, of looks, and of accounts that stand.
-use Rattle.std.proofs.Common.{◌≡◌, refl, sym, ap, ◌∙◌, subst, IsTrue, ℕ, max, ◌==◌, ◌&&◌, ◌≤◌, ◌⊎◌, inl, inr, Bool, true, false, if◌then◌else◌, List, [], ◌∷◌, ◌++◌, length, Option, Some, None, IfSome, IsSome, find, arith}
+use Rattle.std.proofs.Common.{◌≡◌, refl, sym, ap, ◌∙◌, subst, IsTrue, ℕ, max, ◌==◌, ◌&&◌, Bool, true, false, if◌then◌else◌, List, [], ◌∷◌, length, Option, Some, None, IfSome, IsSome, find, arith}
 use Rattle.std.specs.List.{All, list_all}
 use Rattle.std.proofs.lemmas.Bool.{le-leb}
 use Rattle.std.proofs.lemmas.Bool.Decides.{nat_tests}
 use Rattle.std.proofs.lemmas.List.Elements.{All-cons, All-head, All-nil, All-tail}
 use Rattle.account_history.proofs.Grammatical.{grammar-written}
-use Rattle.account_history.specs.Answers.{attempt_reply, account_reply, reply_for, reply_of}
+use Rattle.account_history.specs.Answers.{attempt_reply, reply_for, reply_of}
 use Rattle.account_history.specs.Failures.{tally}
 use Rattle.account_history.specs.Histories.{History, moment, start_of}
 use Rattle.account_history.specs.Known.{known}

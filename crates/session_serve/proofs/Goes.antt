@@ -1,5 +1,5 @@
 -- How a session goes on, turn by turn.
-use Rattle.std.proofs.Common.{◌≡◌, ◌≢◌, refl, sym, ap, ◌∙◌, subst, IsTrue, ℕ, suc, zero, ◌+◌, ◌-◌, ◌*◌, ◌≤◌, ◌^◌, ◌==◌, not, Bool, true, false, List, [], ◌∷◌, ◌++◌, length, Option, Some, None, Result, Ok, Err, IfOk, IfErr, append-nil, length-append, arith}
+use Rattle.std.proofs.Common.{◌≡◌, ◌≢◌, refl, sym, ap, ◌∙◌, subst, IsTrue, ℕ, suc, zero, ◌+◌, ◌-◌, ◌*◌, ◌≤◌, ◌^◌, ◌==◌, not, Bool, true, false, List, [], ◌∷◌, ◌++◌, length, Option, Result, Ok, Err, IfOk, IfErr, append-nil, length-append, arith}
 use Rattle.lg_outside.specs.Faults.{Rose}
 use Rattle.lg_outside.specs.Traffic.{Traffic}
 use Rattle.account_history.specs.declared.entries.Entry.{Entry}
@@ -19,12 +19,10 @@ use Rattle.packet_frame.specs.declared.packets.Packet.{Packet}
 use Rattle.packet_frame.specs.declared.packets.Want.TheVariants.{Exactly}
 use Rattle.packet_frame.proofs.Fronts.{front-nothing}
 use Rattle.packet_stream.proofs.Longer.{stays}
-use Rattle.packet_stream.specs.Packing.{packets_text}
-use Rattle.packet_stream.specs.Sent.{sent_from}
 use Rattle.packet_stream.specs.Streams.{IsShort, Stream, behind_of, front_of}
 use Rattle.packet_stream.specs.declared.limits.TheConstants.{MAX_PAYLOAD}
 use Rattle.serve_talk.specs.Fitting.{Fits, Held as Holding, MayAsk, Spending, held_after, is_call}
-use Rattle.serve_talk.specs.Paths.{Anything, Behind, Halts, Is, IsIdle, Loose, Point, Rested, TheEnd, Turned, Wrote, ahead, book_end, closed, moment, nothing_loose, over, standing, stopped, unsaid}
+use Rattle.serve_talk.specs.Paths.{Anything, Halts, Loose, Point, Rested, Turned, Wrote, ahead, book_end, closed, nothing_loose, over, standing, stopped, unsaid}
 use Rattle.serve_talk.specs.Serving.{IsCause}
 use Rattle.serve_talk.specs.Sides.{Grew, Moment, Side, nonces_in}
 use Rattle.serve_talk.specs.declared.endings.Ending.{Ending}
@@ -33,10 +31,10 @@ use Rattle.serve_talk.proofs.Grown.{grew_none}
 use Rattle.session_talk.specs.Doable.{AsksWell, CanBeDone}
 use Rattle.session_talk.specs.Given.{AddsAt, IsDone, Reads}
 use Rattle.session_talk.specs.Logins.{faulted}
-use Rattle.session_talk.specs.Runs.{IsLive, Standing, packets_in, sent_on, stands_on}
-use Rattle.session_talk.specs.Talk.{Begins, Own, Question, SessionTalk}
-use Rattle.session_talk.specs.Transcript.{Closed, Open, Peer}
-use Rattle.session_talk.specs.Turns.{Adds, Answers, IsAsked, IsBegun, answers, ask_of, asked, first_id, heard, is_answer, is_read, question, rest, said, wanted_by}
+use Rattle.session_talk.specs.Runs.{IsLive, Standing, packets_in, stands_on}
+use Rattle.session_talk.specs.Talk.{Begins, Own, SessionTalk}
+use Rattle.session_talk.specs.Transcript.{Open, Peer}
+use Rattle.session_talk.specs.Turns.{Adds, Answers, IsAsked, IsBegun, answers, asked, heard, is_answer, is_read, question, rest, said, wanted_by}
 use Rattle.session_talk.specs.declared.actions.Ask.{Ask}
 use Rattle.session_talk.specs.declared.actions.Ask.TheVariants as ask
 use Rattle.session_talk.specs.declared.ends.SessionEnd.{SessionEnd}
@@ -47,7 +45,7 @@ use Rattle.session_talk.proofs.Asking.{asks_are_answered, own_answer, untrue}
 use Rattle.session_talk.proofs.Putting.{asks_can_be_done}
 use Rattle.session_engine.specs.Standing.{next_of, talk_of_session}
 use Rattle.session_engine.specs.declared.session.Session.{Session}
-use Rattle.session_serve.specs.Answering.{Answered, Fell, IsFall, IsOwn, once}
+use Rattle.session_serve.specs.Answering.{Answered, Fell, IsOwn, once}
 use Rattle.session_serve.specs.Holding.{Keeps, held_of}
 use Rattle.session_serve.specs.Saying.{Broke, IsOn, Said, due_on}
 use Rattle.session_serve.specs.Saying as saying

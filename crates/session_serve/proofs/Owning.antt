@@ -1,16 +1,14 @@
 -- What each call answers to a session's ask.
-use Rattle.std.proofs.Common.{◌≡◌, refl, sym, ap, ◌∙◌, subst, IsTrue, ℕ, ◌+◌, ◌-◌, ◌≤◌, Bool, true, List, [], ◌∷◌, ◌++◌, Option, Some, None, IsSome, IfSome, find, arith}
+use Rattle.std.proofs.Common.{◌≡◌, refl, sym, ap, ◌∙◌, subst, ℕ, ◌+◌, ◌-◌, ◌≤◌, Bool, true, List, [], ◌∷◌, Option, Some, None, arith}
 use Rattle.account_history.specs.Answers.{attempt_reply}
 use Rattle.account_history.specs.Histories.{history}
 use Rattle.account_history.specs.Preparing.{PreparedOf}
-use Rattle.account_history.specs.Records.{has_id, records}
+use Rattle.account_history.specs.Records.{records}
 use Rattle.account_history.specs.declared.entries.Entry.{Entry}
-use Rattle.account_history.specs.declared.entries.Entry.TheVariants.{Attempted, Executed, Observed}
-use Rattle.account_history.specs.declared.entries.Log.{Log}
+use Rattle.account_history.specs.declared.entries.Entry.TheVariants.{Attempted, Observed}
 use Rattle.account_history.specs.declared.entries.Reply.{Reply}
 use Rattle.account_history.specs.declared.entries.StmtReply.{StmtReply}
 use Rattle.account_history.specs.declared.entries.Who.{Who}
-use Rattle.account_history.specs.declared.entries.Who.TheVariants.{Login}
 use Rattle.factor_chain.specs.CheckedOf.{CheckedOf}
 use Rattle.factor_chain.specs.declared.credentials.Look.{Look}
 use Rattle.factor_chain.specs.declared.evidence_list.Evidence.{Evidence}
@@ -19,16 +17,13 @@ use Rattle.sha256_crypt.specs.Alphabet.{IsSaltByte}
 use Rattle.std.specs.List.{All}
 use Rattle.serve_talk.specs.Fitting as fitting
 use Rattle.serve_talk.specs.Fitting.{MayAsk, MayLook, held_after, is_call, opened_by}
-use Rattle.serve_talk.specs.Sides.{Grew, Side, none}
+use Rattle.serve_talk.specs.Sides.{Side, none}
 use Rattle.serve_talk.specs.declared.endings.Ending.TheVariants.{Told, BookEnd}
 use Rattle.serve_talk.proofs.Grown.{gave_none, grew_none}
 use Rattle.server_outside.specs.Telling.{Gave}
-use Rattle.session_talk.specs.Talk.{Own}
-use Rattle.session_talk.specs.Turns.{Adds, Answers}
 use Rattle.session_talk.specs.declared.actions.Ask.{Ask}
 use Rattle.session_talk.specs.declared.actions.Ask.TheVariants as ask
 use Rattle.session_talk.specs.declared.ends.SessionEnd.TheVariants as end
-use Rattle.session_talk.specs.declared.inputs.Input.{Input}
 use Rattle.session_talk.specs.declared.inputs.Input.TheVariants as input
 use Rattle.session_serve.specs.Answering.{Answered, Fell, once}
 use Rattle.session_serve.specs.Holding.{HasAccount, HasPaper, Keeps, held_of, paper_of}
@@ -38,9 +33,8 @@ use Rattle.session_serve.specs.declared.holding.Paper.{Paper}
 use Rattle.session_serve.specs.declared.holding.Paper.TheVariants as paper
 use Rattle.shared_accounts.specs.Calls.{run_of}
 use Rattle.session_talk.specs.Statements.{no_salt}
-use Rattle.shared_accounts.specs.Sharing.{AccountsView, Added, Attempts, HasLook, Looked, NothingAdded, OneTurn, OwnHasStood, Runs, WasLate}
+use Rattle.shared_accounts.specs.Sharing.{AccountsView, Attempts, HasLook, Looked, NothingAdded, OwnHasStood, Runs, WasLate}
 use Rattle.shared_accounts.specs.Tickets.{LateOf, TicketOf}
-use Rattle.shared_accounts.specs.declared.calls.Ran.{Ran}
 use Rattle.shared_accounts.specs.declared.desk.Begun.{Begun}
 use Rattle.turn_book.specs.Book.{Ended}
 use Rattle.turn_book.specs.Views.{entries_seen}

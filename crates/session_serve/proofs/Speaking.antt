@@ -1,5 +1,5 @@
 -- What a session says when it is given an input.
-use Rattle.std.proofs.Common.{◌≡◌, refl, sym, ap, ◌∙◌, subst, IsTrue, ℕ, List, [], ◌∷◌, ◌++◌, take, drop, Option, Result, Ok, Err, IfErr, IfOk, OnOk, append-nil}
+use Rattle.std.proofs.Common.{◌≡◌, refl, sym, ap, ◌∙◌, subst, ℕ, List, [], take, drop, Option, Result, Ok, Err, IfErr, IfOk, OnOk}
 use Rattle.std.proofs.lemmas.List.{take-append-drop}
 use Rattle.lg_outside.specs.Traffic.{Traffic}
 use Rattle.interaction.specs.Talk.{Says, Hears, Asks, Over}
@@ -13,12 +13,10 @@ use Rattle.packet_stream.specs.Sent.{id_behind_all, sent_from}
 use Rattle.serve_talk.specs.declared.endings.Ending.{Ending}
 use Rattle.serve_talk.specs.declared.endings.Ending.TheVariants.{Told, BookEnd}
 use Rattle.session_talk.specs.Runs.{IsLive, Standing, stands_on}
-use Rattle.session_talk.specs.Talk.{Begins, Own, SessionTalk}
-use Rattle.session_talk.specs.Turns.{Acts, IsBegun, asked, first_id, heard, question, rest, said, wanted_by}
+use Rattle.session_talk.specs.Talk.{SessionTalk}
+use Rattle.session_talk.specs.Turns.{Acts, IsBegun, asked, heard, question, said, wanted_by}
 use Rattle.session_talk.specs.declared.actions.Action.{Action}
 use Rattle.session_talk.specs.declared.actions.Ask.{Ask}
-use Rattle.session_talk.specs.declared.actions.Ask.TheVariants as ask
-use Rattle.session_talk.specs.declared.ends.SessionEnd.{SessionEnd}
 use Rattle.session_talk.specs.declared.ends.SessionEnd.TheVariants as end
 use Rattle.session_talk.specs.declared.inputs.Input.{Input}
 use Rattle.session_serve.specs.Saying as saying

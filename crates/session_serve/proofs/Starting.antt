@@ -1,7 +1,7 @@
 -- How a session begins.
 use Rattle.std.proofs.Common.{◌≡◌, refl, sym, ap, ◌∙◌, subst, IsTrue, ℕ, ◌+◌, ◌*◌, ◌≤◌, ◌^◌, List, [], ◌∷◌, ◌++◌, Option, None, append-nil, arith}
 use Rattle.lg_outside.specs.Traffic.{Traffic}
-use Rattle.link_packets.specs.Reading.{between, longest_packet}
+use Rattle.link_packets.specs.Reading.{between}
 use Rattle.serve_talk.specs.Fitting.{Fits, Held as Holding, most_packets, nothing_held}
 use Rattle.serve_talk.specs.Paths.{Anything, Halts, Leads, Loose, Point, Turned, Wrote, ahead, from, nothing_loose, over, standing, unsaid}
 use Rattle.serve_talk.specs.Sides.{Grew, Moment, Side, nonces_in, none}
@@ -18,7 +18,6 @@ use Rattle.session_talk.specs.Runs.{IsLive, Standing, stands_on}
 use Rattle.session_talk.specs.Talk.{SessionTalk}
 use Rattle.session_talk.specs.Turns.{IsAsked, IsBegun, asked, heard, is_answer, rest}
 use Rattle.session_talk.specs.declared.actions.Ask.{Ask}
-use Rattle.session_talk.specs.declared.inputs.Input.{Input}
 use Rattle.session_talk.specs.declared.inputs.Input.TheVariants as input
 use Rattle.session_talk.proofs.Putting.{asks_can_be_done}
 use Rattle.session_engine.specs.Standing.{next_of, talk_of_session}

@@ -1,5 +1,5 @@
 -- What a session holds between two turns, and what of it the accounts have seen.
-use Rattle.std.specs.Prelude.{◌≡◌, ℕ, List, Option, Some, None}
+use Rattle.std.specs.Prelude.{ℕ, List, Option, Some, None}
 use Rattle.account_history.specs.declared.entries.Entry.{Entry}
 use Rattle.serve_talk.specs.Fitting as fitting
 use Rattle.session_serve.specs.declared.holding.Held.{Held}

@@ -1,9 +1,8 @@
 -- Where a session that is served stands between two turns.
-use Rattle.std.specs.Prelude.{◌≡◌, ℕ, ◌+◌, ◌*◌, ◌^◌, ◌≤◌, List, [], Option}
+use Rattle.std.specs.Prelude.{◌≡◌, ℕ, ◌+◌, ◌*◌, ◌^◌, ◌≤◌, [], Option}
 use Rattle.lg_outside.specs.Traffic.{Traffic}
 use Rattle.link_packets.specs.Reading.{between, longest_packet}
 use Rattle.packet_frame.specs.Framing.{Framing}
-use Rattle.account_history.specs.declared.entries.Entry.{Entry}
 use Rattle.serve_talk.specs.Fitting.{Fits, most_packets, nothing_held}
 use Rattle.serve_talk.specs.Paths.{Anything, Point, Turned, from, nothing_loose}
 use Rattle.serve_talk.specs.Sides.{Moment, Side}

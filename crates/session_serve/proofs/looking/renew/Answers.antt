@@ -1,7 +1,5 @@
 use Rattle.std.proofs.Common.{refl, subst}
-use Rattle.session_serve.specs.declared.holding.Held.{Held}
 use Rattle.session_serve.specs.declared.holding.Paper.TheVariants as paper
-use Rattle.serve_talk.specs.Fitting.{opened_by}
 use Rattle.session_talk.specs.declared.actions.Ask.TheVariants as ask
 use Rattle.shared_accounts.specs.Desks.{desk_start}
 use Rattle.shared_accounts.specs.Sharing.{FailedLook}

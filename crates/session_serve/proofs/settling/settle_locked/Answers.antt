@@ -1,12 +1,10 @@
 use Rattle.std.proofs.Common.{refl, subst, ℕ, List}
-use Rattle.session_serve.specs.declared.holding.Held.{Held}
 use Rattle.session_serve.specs.declared.holding.Paper.TheVariants as paper
 use Rattle.serve_talk.specs.Fitting.{opened_by}
 use Rattle.session_talk.specs.declared.actions.Ask.TheVariants as ask
 use Rattle.shared_accounts.specs.Desks.{desk_start}
 use Rattle.shared_accounts.specs.Sharing.{Attempts}
 use Rattle.turn_book.specs.Book.{began, view}
-use Rattle.turn_book.specs.declared.object.TurnFault.{TurnFault}
 use Rattle.session_serve.proofs.Owning.{end_fell, holds_account, holds_taken, locked_answered}
 use Rattle.session_serve.proofs.settling.settle_locked.Goals as goal
 

@@ -1,12 +1,7 @@
-use Rattle.std.proofs.Common.{refl, subst}
-use Rattle.session_serve.specs.declared.holding.Held.{Held}
-use Rattle.session_serve.specs.declared.holding.Paper.TheVariants as paper
-use Rattle.serve_talk.specs.Fitting.{opened_by}
+use Rattle.std.proofs.Common.{refl}
 use Rattle.session_talk.specs.declared.actions.Ask.TheVariants as ask
 use Rattle.shared_accounts.specs.Desks.{desk_start}
-use Rattle.shared_accounts.specs.Sharing.{FailedLook}
 use Rattle.turn_book.specs.Book.{began, view}
-use Rattle.turn_book.specs.declared.object.TurnFault.{TurnFault}
 use Rattle.session_serve.proofs.Facts.{nonce_is_salt, readable_written}
 use Rattle.session_serve.proofs.Owning.{committed_locked_answered, end_fell, holds_taken, memory_fell}
 use Rattle.session_serve.proofs.statements.commit_locked.Goals as goal
