@@ -1,10 +1,10 @@
 -- How a session begins.
-use Rattle.std.proofs.Common.{◌≡◌, refl, sym, ap, ◌∙◌, subst, IsTrue, ℕ, ◌+◌, ◌*◌, ◌≤◌, ◌^◌, List, [], ◌∷◌, ◌++◌, Option, None, append-nil, arith}
+use Rattle.std.proofs.Common.{◌≡◌, refl, sym, ap, ◌∙◌, subst, IsTrue, ℕ, List, [], ◌∷◌, ◌++◌, Option, None, append-nil, arith}
 use Rattle.lg_outside.specs.Traffic.{Traffic}
 use Rattle.link_packets.specs.Reading.{between}
 use Rattle.serve_talk.specs.Fitting.{Fits, Held as Holding, most_packets, nothing_held}
-use Rattle.serve_talk.specs.Paths.{Anything, Halts, Leads, Loose, Point, Turned, Wrote, ahead, from, nothing_loose, over, standing, unsaid}
-use Rattle.serve_talk.specs.Sides.{Grew, Moment, Side, nonces_in, none}
+use Rattle.serve_talk.specs.Paths.{Anything, Halts, Leads, Loose, Point, Turned, Wrote, from, nothing_loose, over, standing, unsaid}
+use Rattle.serve_talk.specs.Sides.{Grew, Moment, Side, none}
 use Rattle.serve_talk.specs.declared.endings.Ending.{Ending}
 use Rattle.serve_talk.proofs.Fitted.{sessions_fit}
 use Rattle.serve_talk.proofs.Grown.{gave_none, grew_none}
@@ -140,7 +140,7 @@ stands_begin session id talk next =
     ∙ ap (λ (t : SessionTalk). let s : Standing = record { next = 0; at = t } in s) talk
 
 pub newly_held : (h : Held) → h ≡ record { paper = paper.Nothing; account = None; packets = 1048579; calls = 0 } → IsNewlyHeld h
-newly_held h is = (ap (λ (x : Held). held_of x) is, (ap (λ (x : Held). x.packets) is, ap (λ (x : Held). x.calls) is))
+newly_held h is = (ap (λ (x : Held). held_of x) is, ap (λ (x : Held). x.packets) is, ap (λ (x : Held). x.calls) is)
 
 pub ready_first : (begun : Begun) (id : ℕ) (x : Moment) (session : Session) (frames : Framing) (h : Held) (link : Option Traffic) (side : Side) (asks : Ask) →
     Begins begun id x session link side asks → frames ≡ between 0 0 → IsNewlyHeld h → IsReady session frames h asks

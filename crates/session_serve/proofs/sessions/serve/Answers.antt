@@ -1,11 +1,8 @@
 use Rattle.std.proofs.Common.{ap, sym, subst}
-use Rattle.lg_outside.specs.Faults.{Rose}
 use Rattle.serve_talk.specs.Fitting as fitting
-use Rattle.serve_talk.specs.Paths.{from}
 use Rattle.serve_talk.proofs.Served.{paths_are_served}
 use Rattle.serve_talk.proofs.Walked.{leads_none}
 use Rattle.session_serve.specs.Holding.{Keeps, held_of}
-use Rattle.session_serve.specs.Siding.{side_of}
 use Rattle.session_serve.specs.declared.holding.Held.{Held}
 use Rattle.shared_accounts.specs.Desks.{desk_start}
 use Rattle.turn_book.specs.Book.{began, view}
@@ -36,8 +33,8 @@ returns-in-Ok-clause-serves g c =
     (began desk_start c.args.accounts.now.book) (view c.args.seat.now) (g.C.Clock.given c.args.clock.now))
     c.new_reader-frames.ensures (newly_held c.new-held.result c.new-held.ensures))
 
-pub returns-in-Err-clause-serves : goal.returns-in-Err-clause-serves
-returns-in-Err-clause-serves g c =
+pub returns-clause-serves : goal.returns-clause-serves
+returns-clause-serves g c =
     paths_are_served.halts c.args.id _ _ _ (g.L.Link.fault_count c.args.link.now) (g.L.Link.fault_count c.begin.new.link) c.in-Err.how (leads_none _)
     (c.in-Err.ensures.halts c.args.id (stands_begin c.new-session.result c.args.id c.new-session.ensures.talk c.new-session.ensures.next)
     (began desk_start c.args.accounts.now.book) (view c.args.seat.now) (g.C.Clock.given c.args.clock.now))
