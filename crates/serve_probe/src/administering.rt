@@ -1,7 +1,9 @@
 //! The account statements of root.
 
 ghost use Rattle.account_history.specs.Sound.{IsWritten};
+ghost use Rattle.sha256_crypt.specs.Alphabet.{IsSaltByte};
 ghost use Rattle.shared_accounts.specs.Sharing.{Sits};
+ghost use Rattle.std.specs.List.{All};
 ghost use Rattle.std.specs.Prelude.{◌≡◌, IfOk};
 
 use account_history::laws::accounts_are_sound;
@@ -25,6 +27,16 @@ fn statement_of(alloc: Global, text: &[u8]) -> Result<Statement, SyntaxFault>
     accounts_are_sound();
     let statement = read(alloc, text)?;
     Ok(statement)
+}
+
+/// The salt of a statement: a draw where a password stands behind BY.
+fn salt_of(draws: &mut CountedDraws, statement: &Statement) -> [u8; 20]
+    ensures letters { All IsSaltByte result }
+{
+    if has_by(statement) {
+        return draws.draw();
+    }
+    no_salt()
 }
 
 /// Whether a statement was answered.
@@ -62,11 +74,7 @@ pub fn administer<R: Wait>(
     let Ok((look, ticket)) = shared.observe(rt, alloc, seat, &who) else {
         return None;
     };
-    let salt = if has_by(&statement) {
-        draws.draw()
-    } else {
-        no_salt()
-    };
+    let salt = salt_of(draws, &statement);
     let Ok(prepared) = prepare(alloc, look, statement, &salt, ROOT) else {
         return None;
     };
