@@ -57,6 +57,7 @@ impl<O: Object> TurnBook<O> {
         ensures new { view result ≡ right (view seat.old) }
         ensures unmade { mine (view result) ≡ [] }
     {
+        // This step changes nothing: it tells the seat that the number split off next has made no entry.
         self.table.shared.load::<Unmade>(&mut seat.place, NEXT);
         Seat {
             place: self.table.shared.split_seat::<Branches>(&mut seat.place),
