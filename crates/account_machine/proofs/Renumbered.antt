@@ -71,7 +71,7 @@ pub record IsStart (accounts : List Account) : Type 0 where
   pub rising : Rise 0 accounts
   pub fits : All FitsRecord accounts
 
-loaded-start : (rows : List Kept) (accounts : List Account) → Ascend rows → AllZip IsRowOf rows accounts → IsStart (loaded_accounts accounts)
+pub loaded-start : (rows : List Kept) (accounts : List Account) → Ascend rows → AllZip IsRowOf rows accounts → IsStart (loaded_accounts accounts)
 loaded-start [] [] r all = record {
   rising = (omega arith, tt);
   fits = All-cons FitsRecord root_account [] root-fits (All-nil FitsRecord);

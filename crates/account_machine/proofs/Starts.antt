@@ -98,7 +98,7 @@ native-fits id (x ∷ xs) e =
     (plain-fits id x.user method.Native (native_stored x.password) false (opening-user x.user third.0) (native-password x.password))
     (native-fits (id + 1) xs first.1)
 
-opening-fits : (extra : List Opening) → are_openings extra ≡ true → All FitsRecord (opening_accounts extra)
+pub opening-fits : (extra : List Opening) → are_openings extra ≡ true → All FitsRecord (opening_accounts extra)
 opening-fits extra e = All-cons FitsRecord root_account (native_accounts 2 extra) root-fits (native-fits 2 extra e)
 
 -- each account of a start fits at the newest of their moments

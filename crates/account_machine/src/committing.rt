@@ -98,8 +98,10 @@ pub fn perform<K: Keeper>(
     ensures err_stamps { OnErr result ((user : List ℕ) → stamp_in stamps.new user ≡ stamp_in stamps.old user) }
     ensures kept { Keeps (kept_after statement.now (given_of numbers.now) actor salt.now now (accounts_of rows.old.items)) (K.told_rows keeper.old) (K.told_rows keeper.new) result }
     ensures called { IfOk result (λ done. done ≡ false → changes_accounts statement.now ≡ true) }
+    ensures uncalled { changes_accounts statement.now ≡ false → keeper.new ≡ keeper.old }
     ensures cause { IfOk result (λ done. done ≡ false → Rose (K.fault_count keeper.old) (K.fault_count keeper.new)) }
     ensures rising { K.fault_count keeper.old ≤ K.fault_count keeper.new }
+    ensures err_count { OnErr result (K.fault_count keeper.new ≡ K.fault_count keeper.old) }
 {
     let cleared = list_user(alloc, rows.as_slice(), stamps, statement, actor)?;
     let forgotten = forgotten_numbers(rows.as_slice(), statement, actor);

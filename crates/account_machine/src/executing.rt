@@ -160,6 +160,7 @@ fn create<K: Keeper>(
     ensures kept { Keeps (put_account account) (K.told_rows keeper.old) (K.told_rows keeper.new) result }
     ensures cause { IfOk result (λ done. done ≡ false → Rose (K.fault_count keeper.old) (K.fault_count keeper.new)) }
     ensures rising { K.fault_count keeper.old ≤ K.fault_count keeper.new }
+    ensures err_count { OnErr result (K.fault_count keeper.new ≡ K.fault_count keeper.old) }
 {
     let tally = Tally::new();
     add(alloc, rows, Row { account, tally }, keeper)
@@ -178,6 +179,7 @@ fn drop_target<K: Keeper>(
     ensures kept { Keeps (remove_target (target_of (accounts_of rows.old.items) statement.now actor)) (K.told_rows keeper.old) (K.told_rows keeper.new) result }
     ensures cause { IfOk result (λ done. done ≡ false → Rose (K.fault_count keeper.old) (K.fault_count keeper.new)) }
     ensures rising { K.fault_count keeper.old ≤ K.fault_count keeper.new }
+    ensures err_count { OnErr result (K.fault_count keeper.new ≡ K.fault_count keeper.old) }
 {
     match find_target(rows.as_slice(), statement, actor) {
         Some(place) => {
@@ -210,6 +212,7 @@ fn change_target<K: Keeper>(
     ensures kept { Keeps (put_target (next_of statement.now (given_of numbers.now) salt.now now) (target_of (accounts_of rows.old.items) statement.now actor)) (K.told_rows keeper.old) (K.told_rows keeper.new) result }
     ensures cause { IfOk result (λ done. done ≡ false → Rose (K.fault_count keeper.old) (K.fault_count keeper.new)) }
     ensures rising { K.fault_count keeper.old ≤ K.fault_count keeper.new }
+    ensures err_count { OnErr result (K.fault_count keeper.new ≡ K.fault_count keeper.old) }
 {
     match find_target(rows.as_slice(), statement, actor) {
         Some(place) => {
@@ -241,8 +244,10 @@ pub fn execute<K: Keeper>(
     ensures err { OnErr result (rows.new.items ≡ rows.old.items) }
     ensures kept { Keeps (kept_after statement.now (given_of numbers.now) actor salt.now now (accounts_of rows.old.items)) (K.told_rows keeper.old) (K.told_rows keeper.new) result }
     ensures called { IfOk result (λ done. done ≡ false → changes_accounts statement.now ≡ true) }
+    ensures uncalled { changes_accounts statement.now ≡ false → keeper.new ≡ keeper.old }
     ensures cause { IfOk result (λ done. done ≡ false → Rose (K.fault_count keeper.old) (K.fault_count keeper.new)) }
     ensures rising { K.fault_count keeper.old ≤ K.fault_count keeper.new }
+    ensures err_count { OnErr result (K.fault_count keeper.new ≡ K.fault_count keeper.old) }
 {
     match statement {
         Statement::Create {

@@ -19,6 +19,7 @@ fn put_account<K: Keeper>(alloc: Global, account: &Account, keeper: &mut K) -> R
     ensures rows { Keeps (put_row account.now.id (record_text account.now)) (K.told_rows keeper.old) (K.told_rows keeper.new) result }
     ensures cause { IfOk result (λ done. done ≡ false → Rose (K.fault_count keeper.old) (K.fault_count keeper.new)) }
     ensures rising { K.fault_count keeper.old ≤ K.fault_count keeper.new }
+    ensures err_count { OnErr result (K.fault_count keeper.new ≡ K.fault_count keeper.old) }
 {
     let mut text = Out::new(alloc);
     write_record(account, &mut text)?;
@@ -34,6 +35,7 @@ fn remove_record<K: Keeper>(key: u64, keeper: &mut K) -> Result<bool, Memory>
     ensures rows { Keeps (remove_row key) (K.told_rows keeper.old) (K.told_rows keeper.new) result }
     ensures cause { IfOk result (λ done. done ≡ false → Rose (K.fault_count keeper.old) (K.fault_count keeper.new)) }
     ensures rising { K.fault_count keeper.old ≤ K.fault_count keeper.new }
+    ensures err_count { OnErr result (K.fault_count keeper.new ≡ K.fault_count keeper.old) }
 {
     match keeper.remove(key) {
         Ok(()) => Ok(true),
@@ -57,6 +59,7 @@ pub fn replace<K: Keeper>(
     ensures rows { Keeps (put_row row.account.id (record_text row.account)) (K.told_rows keeper.old) (K.told_rows keeper.new) result }
     ensures cause { IfOk result (λ done. done ≡ false → Rose (K.fault_count keeper.old) (K.fault_count keeper.new)) }
     ensures rising { K.fault_count keeper.old ≤ K.fault_count keeper.new }
+    ensures err_count { OnErr result (K.fault_count keeper.new ≡ K.fault_count keeper.old) }
 {
     let done = put_account(alloc, &row.account, keeper)?;
     if done {
@@ -78,6 +81,7 @@ pub fn add<K: Keeper>(
     ensures rows { Keeps (put_row row.account.id (record_text row.account)) (K.told_rows keeper.old) (K.told_rows keeper.new) result }
     ensures cause { IfOk result (λ done. done ≡ false → Rose (K.fault_count keeper.old) (K.fault_count keeper.new)) }
     ensures rising { K.fault_count keeper.old ≤ K.fault_count keeper.new }
+    ensures err_count { OnErr result (K.fault_count keeper.new ≡ K.fault_count keeper.old) }
 {
     rows.reserve(1)?;
     let done = put_account(alloc, &row.account, keeper)?;
@@ -103,6 +107,7 @@ pub fn take_away<K: Keeper>(
     ensures rows { Keeps (remove_row key) (K.told_rows keeper.old) (K.told_rows keeper.new) result }
     ensures cause { IfOk result (λ done. done ≡ false → Rose (K.fault_count keeper.old) (K.fault_count keeper.new)) }
     ensures rising { K.fault_count keeper.old ≤ K.fault_count keeper.new }
+    ensures err_count { OnErr result (K.fault_count keeper.new ≡ K.fault_count keeper.old) }
 {
     let done = remove_record(key, keeper)?;
     if done {

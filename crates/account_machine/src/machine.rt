@@ -56,7 +56,7 @@ impl Accounts {
     ghost use Rattle.account_history.specs.Answers.{attempt_reply, look_of, statement_refusal, statement_reply};
     ghost use Rattle.account_history.specs.Given.{given};
     ghost use Rattle.account_history.specs.Histories.{history, moment, noted};
-    ghost use Rattle.account_history.specs.Legal.{IsExecuted, IsLegal, changes_accounts, last_count};
+    ghost use Rattle.account_history.specs.Legal.{IsExecuted, IsLegal, calls_keeper, changes_accounts, last_count};
     ghost use Rattle.account_history.specs.Numbers.{RiseTo};
     ghost use Rattle.account_history.specs.Records.{records};
     ghost use Rattle.account_history.specs.Sound.{IsWritten};
@@ -75,7 +75,7 @@ impl Accounts {
     ghost use Rattle.lg_outside.specs.Keeping.{Ascend};
     ghost use Rattle.sha256_crypt.specs.Alphabet.{IsSaltByte};
     ghost use Rattle.std.specs.List.{All};
-    ghost use Rattle.std.specs.Prelude.{◌≡◌, ◌≤◌, max, [], None, IfErr, IfOk, IfSome, IsTrue, List, OnErr, ℕ};
+    ghost use Rattle.std.specs.Prelude.{◌≡◌, ◌≤◌, max, [], false, None, IfErr, IfOk, IfSome, IsTrue, List, OnErr, ℕ};
 
     /// The accounts of a start: `'root'@'localhost'` with number 1, without a password and with both
     /// privileges, and a native account at `localhost` for each of `extra`, with the next numbers. Each
@@ -278,6 +278,8 @@ impl Accounts {
         ensures count { last_count (history self.new) ≤ K.fault_count keeper.new }
         ensures err { OnErr result (self.new ≡ self.old) }
         ensures err_rows { OnErr result (K.told_rows keeper.new ≡ K.told_rows keeper.old) }
+        ensures err_count { OnErr result (K.fault_count keeper.new ≡ K.fault_count keeper.old) }
+        ensures uncalled { calls_keeper (statement_refusal (history self.old) statement.now actor reading) statement.now ≡ false → keeper.new ≡ keeper.old }
     {
         match self.refusal(alloc, statement, actor, reading) {
             Ok(Some(code)) => {
@@ -314,6 +316,9 @@ impl Accounts {
         ensures count { last_count (history self.new) ≤ K.fault_count keeper.new }
         ensures err { OnErr result (self.new ≡ self.old) }
         ensures err_rows { OnErr result (K.told_rows keeper.new ≡ K.told_rows keeper.old) }
+        ensures err_count { OnErr result (K.fault_count keeper.new ≡ K.fault_count keeper.old) }
+        ensures uncalled { calls_keeper (statement_refusal (history self.old) prepared.now.statement actor reading) prepared.now.statement ≡ false
+            → keeper.new ≡ keeper.old }
     {
         self.commit_here(
             alloc,
@@ -410,6 +415,8 @@ impl Accounts {
         ensures rising { K.fault_count keeper.old ≤ K.fault_count keeper.new }
         ensures err { OnErr result (self.new ≡ self.old) }
         ensures err_rows { OnErr result (K.told_rows keeper.new ≡ K.told_rows keeper.old) }
+        ensures err_count { OnErr result (K.fault_count keeper.new ≡ K.fault_count keeper.old) }
+        ensures uncalled { changes_accounts statement.now ≡ false → keeper.new ≡ keeper.old }
     {
         let now = self.moment_at(reading);
         let numbers = next_numbers(&self.numbers, statement)?;

@@ -19,7 +19,7 @@ between id place = record { limit = MAX_PAYLOAD; want = Exactly id; start = plac
 
 -- the most bytes of a packet, its header included
 abbrev pub longest_packet : ℕ
-longest_packet = 1048580
+longest_packet = MAX_PAYLOAD + 4
 
 -- A packet was read: it stands at the front of the stream, and no byte behind it was read.
 pub record ReadsPacket (id place : ℕ) (before after : Option Traffic) (packet : Packet) (now : Framing) : Type 0 where

@@ -54,7 +54,8 @@ fn closed_within(frames: &Frames) -> ReadEnd
     ReadEnd::Closed { cut: held != 0 }
 }
 
-/// Reads the next packet, and no byte behind it.
+/// Reads the next packet, and no byte behind it, by a reader that stands between two packets. After an error the reader may
+/// hold a part of a packet.
 pub fn read_packet<L: Link>(link: &mut L, frames: &mut Frames) -> Result<Packet, ReadEnd>
     requires open { L.finished link.old ≡ false }
     requires begun { (id place : ℕ) × (frames.old ≡ between id place) × (place ≤ 2 ^ 62) }

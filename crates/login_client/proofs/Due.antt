@@ -9,7 +9,8 @@ use Rattle.packet_frame.specs.declared.packets.Want.{Want}
 use Rattle.packet_frame.specs.declared.packets.Want.TheVariants.{Exactly}
 use Rattle.packet_frame.proofs.Readings.{concat-push, front-packet}
 use Rattle.packet_frame.proofs.Streams.{ending-no_packet, fault-goes_on, front-ending}
-use Rattle.login_client.specs.Exchange.{EndsAs, EndsAsDue, IsAtEnd, IsExchange, IsOpen, Stand, Waits, Ends, closed, decided, failed, framing, hears, no_memory, over, says, waits}
+use Rattle.link_packets.specs.Moving.{IsAtEnd}
+use Rattle.login_client.specs.Exchange.{EndsAs, EndsAsDue, IsExchange, IsOpen, Stand, Waits, Ends, closed, decided, failed, framing, hears, no_memory, over, says, waits}
 use Rattle.packet_stream.specs.declared.limits.TheConstants.{MAX_PAYLOAD}
 use Rattle.login_client.specs.Hearing.{IsHeard}
 use Rattle.login_client.specs.Talk.{Talk, Hears, Says, Over}

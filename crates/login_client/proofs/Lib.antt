@@ -2,11 +2,9 @@ pub mod Due
 pub mod HeardOf
 pub mod Keeping
 pub mod Meaning
-pub mod Moves
 pub mod Names
 pub mod Opened
 pub mod Opening
-pub mod Packets
 pub mod Reaching
 pub mod Reasons
 pub mod Responses

@@ -4,12 +4,14 @@ use Rattle.std.proofs.Math.Seq.{take-append-add}
 use Rattle.lg_outside.specs.Traffic.{Traffic}
 use Rattle.packet_frame.specs.Framing.{Framing}
 use Rattle.packet_frame.specs.Streams.{Between}
-use Rattle.login_client.specs.Exchange.{EndsAs, EndsWithin, IsExchange, Moved, Stand, Waits, closed, decided, failed, framing, no_memory, waits}
-use Rattle.login_client.specs.Reading.{GoesOn, between, longest_packet}
+use Rattle.link_packets.specs.Moving.{Moved}
+use Rattle.link_packets.specs.Reading.{between, longest_packet}
+use Rattle.login_client.specs.Exchange.{EndsAs, EndsWithin, IsExchange, Stand, Waits, closed, decided, failed, framing, no_memory, waits}
+use Rattle.login_client.specs.Turning.{GoesOn}
 use Rattle.login_client.specs.Talk.{Talk, Hears, Says, Over, IsWaiting}
 use Rattle.login_client.specs.declared.ends.LoginEnd.{LoginEnd}
 use Rattle.login_client.specs.declared.ends.LoginEnd.TheVariants.{Memory}
-use Rattle.login_client.proofs.Moves.{moved-more, moved-none}
+use Rattle.link_packets.proofs.Moves.{moved-more, moved-none}
 
 -- Where a login has come to that began with a talk: with these bytes got and those sent, whatever follows
 -- continues that talk, and ends it within so many packets.

@@ -1,38 +1,54 @@
 -- What a turn of a login makes of the talk.
-use Rattle.std.proofs.Common.{◌≡◌, refl, sym, ap, ◌∙◌, subst, ℕ, zero, suc, ◌+◌, List, [], ◌++◌, length, take, Option, Some, None, append-nil}
+use Rattle.std.proofs.Common.{◌≡◌, refl, sym, ap, ◌∙◌, subst, ℕ, zero, suc, ◌+◌, List, [], ◌∷◌, ◌++◌, length, take, Option, Some, None, append-nil}
 use Rattle.lg_outside.specs.Traffic.{Traffic}
 use Rattle.packet_frame.specs.Framing.{Framing, after_expect, front_of, held_length, unfinished_length}
 use Rattle.packet_frame.specs.Front.{Front, Part}
 use Rattle.packet_frame.specs.Packets.{IsPacket, id_after}
-use Rattle.packet_frame.specs.Streams.{Between, Faulty}
+use Rattle.packet_frame.specs.Streams.{Ending, Between, Cut, Faulty, IsEnding}
 use Rattle.packet_frame.specs.declared.packets.Packet.{Packet}
 use Rattle.packet_frame.specs.declared.packets.Want.TheVariants.{Exactly}
 use Rattle.packet_frame.proofs.Fronts.{front-nothing}
 use Rattle.login_client.specs.Acting.{Acts, Does}
-use Rattle.login_client.specs.Exchange.{EndsAs, EndsWithin, IsDecided, IsExchange, Moved, Stand, Ends, Waits, closed as ends-closed, decided, failed as ends-failed, framing as ends-framing, hears, no_memory as ends-no_memory, over, says, waits}
+use Rattle.login_client.specs.Exchange.{EndsAs, EndsWithin, IsDecided, IsExchange, IsOpen, Stand, Ends, Waits, closed as ends-closed, decided, failed as ends-failed, framing as ends-framing, hears, no_memory as ends-no_memory, over, says, waits}
 use Rattle.packet_stream.specs.declared.limits.TheConstants.{MAX_PAYLOAD}
-use Rattle.login_client.specs.Reading.{Fails, GoesOn, ReadsPacket, Stops, Writes, between, closed, cut, failed, framing, no_memory, unwritten}
+use Rattle.login_client.specs.Turning.{GoesOn, end_of_read, end_of_write}
 use Rattle.login_client.specs.Talk.{Talk, Hears, Says, Over, IsWaiting}
 use Rattle.login_client.specs.declared.ends.ClientAct.{ClientAct}
 use Rattle.login_client.specs.declared.ends.ClientAct.TheVariants.{Send, Done}
 use Rattle.login_client.specs.declared.ends.LoginEnd.{LoginEnd}
 use Rattle.login_client.specs.declared.ends.LoginEnd.TheVariants.{Memory}
 use Rattle.login_client.specs.declared.hearing.Heard.{Heard}
-use Rattle.login_client.proofs.Moves.{moved-more}
+use Rattle.link_packets.proofs.Moves.{moved-more}
+use Rattle.link_packets.specs.Moving.{Moved}
+use Rattle.link_packets.specs.Reading.{IsPartOf, ReadsPacket, Stops, between, closed, failed, faulty, no_memory}
+use Rattle.link_packets.specs.Writing.{Fails, cut, unwritten}
+use Rattle.link_packets.specs.declared.reading.ReadEnd.{ReadEnd}
+use Rattle.link_packets.specs.declared.writing.WriteEnd.{WriteEnd}
+use Rattle.packet_stream.specs.Packing.{packet_text, packets_text}
+use Rattle.packet_stream.specs.Sent.{id_behind, sent_from}
+use Rattle.packet_stream.proofs.Packed.{text_is_packet}
+
+-- less than a packet ends a stream
+part-ending : (id place : ℕ) (got : List ℕ) → IsPartOf id place got → (ending : Ending) × IsEnding MAX_PAYLOAD (Exactly id) place got ending × IsOpen ending
+part-ending id place [] part = (Between, refl, tt {0})
+part-ending id place (b ∷ got) part = (Cut place, ((λ none. cc), refl, part.missing, part.unfinished), tt {0})
 
 -- no packet came
-pub stop-ends : (talk : Talk) (id place : ℕ) (before after : Option Traffic) (Rises : Type 0) (end : LoginEnd) → IsWaiting talk → Stops id place before after Rises end
-    → EndsAs talk id place before after Rises end
-stop-ends (Hears k) id place before after Rises _ w (framing got fault moved shown) =
+pub stop-ends : (talk : Talk) (id place : ℕ) (before after : Option Traffic) (Rises : Type 0) (end : ReadEnd) → IsWaiting talk → Stops id place before after Rises end
+    → EndsAs talk id place before after Rises (end_of_read end)
+stop-ends (Hears k) id place before after Rises _ w (faulty got fault moved shown front-is) =
     ends-framing got [] fault moved (waits k id place got (Faulty fault) shown)
-stop-ends (Hears k) id place before after Rises _ w (closed got ending moved ends open_ at-end) =
-    ends-closed got [] ending open_ moved (waits k id place got ending ends) at-end
-stop-ends (Hears k) id place before after Rises _ w (failed got ending moved ends rises) =
+stop-ends (Hears k) id place before after Rises _ w (closed got is-cut moved part at-end within-is) =
+    let (ending, ends, is-open) = part-ending id place got part in
+    ends-closed got [] ending is-open moved (waits k id place got ending ends) at-end
+stop-ends (Hears k) id place before after Rises _ w (failed got moved part rises) =
+    let (ending, ends, is-open) = part-ending id place got part in
     ends-failed got [] 0 (Waits ending) moved (waits k id place got ending ends) rises
-stop-ends (Hears k) id place before after Rises _ w (no_memory got more ending moved ends) =
+stop-ends (Hears k) id place before after Rises _ w (no_memory got more moved part) =
+    let (ending, ends, is-open) = part-ending id place got part in
     ends-no_memory got more [] 0 (Waits ending) moved (waits k id place got ending ends)
-stop-ends (Says said k) id place before after Rises _ w stops = absurd w
-stop-ends (Over end) id place before after Rises _ w stops = absurd w
+stop-ends (Says said k) id place before after Rises end w stops = absurd w
+stop-ends (Over over-end) id place before after Rises end w stops = absurd w
 
 -- there was no memory for what a packet asks for
 pub heard-nothing : (talk : Talk) (id place : ℕ) (before after : Option Traffic) (packet : Packet) (frames : Framing) (Rises : Type 0) → IsWaiting talk
@@ -127,17 +143,21 @@ said-exchange talk last first payload next place after-id last' text more later 
 -- a payload was said, and the client hears on
 pub heard-says : (n : ℕ) (talk : Talk) (id place : ℕ) (before middle after : Option Traffic) (packet : Packet) (frames now : Framing) (first : ℕ) (payload : List ℕ) (next : Talk) (after-id : ℕ)
     → IsWaiting talk → EndsWithin n talk → ReadsPacket id place before middle packet frames → Acts talk packet (Some (Send first payload)) next
-    → Writes first payload middle after after-id → now ≡ after_expect (front_of frames) frames (Exactly after-id) → GoesOn n talk id place before after next now
-heard-says zero (Hears k) id place before middle after packet frames now first payload next after-id w h read acts wrote expected = absurd h
-heard-says (suc n) (Hears k) id place before middle after packet frames now first payload next after-id w h read acts wrote expected =
+    → Moved middle after [] (packets_text (sent_from first (payload ∷ []))) → after-id ≡ id_behind first payload → now ≡ after_expect (front_of frames) frames (Exactly after-id)
+    → GoesOn n talk id place before after next now
+heard-says zero (Hears k) id place before middle after packet frames now first payload next after-id w h read acts wrote after-is expected = absurd h
+heard-says (suc n) (Hears k) id place before middle after packet frames now first payload next after-id w h read acts wrote after-is expected =
     let s = saying (k acts.heard) packet.last first payload next acts.does in
     let place' = place + length read.head in
     let fresh : front_of frames ≡ Part 4 = ap (λ (v : Framing). front_of v) read.now_is ∙ front-nothing MAX_PAYLOAD (Exactly (id_after packet.last)) place' in
+    let text : List ℕ = packet_text first payload in
+    let (last, is-packet, next-is) = text_is_packet first payload in
+    let written : Moved middle after [] text = subst (λ (sent : List ℕ). Moved middle after [] sent) (append-nil text) wrote in
     record {
       got = read.head;
-      sent = wrote.text;
+      sent = text;
       next = after-id;
-      moved = subst (λ (got : List ℕ). Moved before after got wrote.text) (append-nil read.head) (moved-more before middle after read.head [] [] wrote.text read.moved wrote.moved);
+      moved = subst (λ (got : List ℕ). Moved before after got text) (append-nil read.head) (moved-more before middle after read.head [] [] text read.moved written);
       short = read.short;
       frames_are = expected ∙ ap (λ (f : Front). after_expect f frames (Exactly after-id)) fresh
           ∙ ap (λ (v : Framing). let u : Framing = record v { want = Exactly after-id } in u) read.now_is;
@@ -148,30 +168,31 @@ heard-says (suc n) (Hears k) id place before middle after packet frames now firs
         subst (λ (t : Talk). EndsWithin n t) (sym s.next_is) (said-within n payload s.k (subst (λ (t : Talk). EndsWithin n t) s.talk_is (h acts.heard))),
       );
       follows = λ more later stand x.
-          subst (λ (out : List ℕ). IsExchange (Hears k) id place (read.head ++ more) out stand) refl
-          (hears k id place packet.first packet.last packet.payload read.head more (wrote.text ++ later) acts.heard stand read.is_packet acts.is_heard
-          (said-exchange (k acts.heard) packet.last first payload next place' after-id wrote.last wrote.text more later stand acts.does wrote.is_packet wrote.next_is x));
+          hears k id place packet.first packet.last packet.payload read.head more (text ++ later) acts.heard stand read.is_packet acts.is_heard
+          (said-exchange (k acts.heard) packet.last first payload next place' after-id last text more later stand acts.does is-packet (after-is ∙ sym next-is) x);
     }
-heard-says n (Says said k) id place before middle after packet frames now first payload next after-id w h read acts wrote expected = absurd w
-heard-says n (Over e) id place before middle after packet frames now first payload next after-id w h read acts wrote expected = absurd w
+heard-says n (Says said k) id place before middle after packet frames now first payload next after-id w h read acts wrote after-is expected = absurd w
+heard-says n (Over e) id place before middle after packet frames now first payload next after-id w h read acts wrote after-is expected = absurd w
 
 -- a payload was to be said, and wasn't or not whole
-pub heard-fails : (n : ℕ) (talk : Talk) (id place : ℕ) (before middle after : Option Traffic) (packet : Packet) (frames : Framing) (first : ℕ) (payload : List ℕ) (next : Talk) (Rises Rose : Type 0) (end : LoginEnd)
+pub heard-fails : (talk : Talk) (id place : ℕ) (before middle after : Option Traffic) (packet : Packet) (frames : Framing) (first : ℕ) (payload : List ℕ) (next : Talk) (Rises Rose : Type 0) (end : WriteEnd)
     → IsWaiting talk → ReadsPacket id place before middle packet frames → Acts talk packet (Some (Send first payload)) next
-    → (Rises → Rose) → Fails first payload middle after Rises end → EndsAs talk id place before after Rose end
-heard-fails n (Hears k) id place before middle after packet frames first payload next Rises Rose _ w read acts up (cut text last count is-packet moved rises) =
+    → (Rises → Rose) → Fails (packets_text (sent_from first (payload ∷ []))) middle after Rises end → EndsAs talk id place before after Rose (end_of_write end)
+heard-fails (Hears k) id place before middle after packet frames first payload next Rises Rose _ w read acts up (cut count moved rises) =
     let s = saying (k acts.heard) packet.last first payload next acts.does in
     let place' = place + length read.head in
+    let text : List ℕ = packet_text first payload in
+    let (last, is-packet, next-is) = text_is_packet first payload in
     let x = subst (λ (t : Talk). IsExchange t (id_after last) place' [] [] (Waits Between)) (sym s.next_is) (waits s.k (id_after last) place' [] Between refl) in
     let y = said-exchange (k acts.heard) packet.last first payload next place' (id_after last) last text [] [] (Waits Between) acts.does is-packet refl x in
     ends-failed (read.head ++ []) (text ++ []) count (Waits Between)
-    (subst (λ (out : List ℕ). Moved before after (read.head ++ []) (take count out)) (sym (append-nil text)) (moved-more before middle after read.head [] [] (take count text) read.moved moved))
+    (moved-more before middle after read.head [] [] (take count (text ++ [])) read.moved moved)
     (hears k id place packet.first packet.last packet.payload read.head [] (text ++ []) acts.heard (Waits Between) read.is_packet acts.is_heard y)
     (up rises)
-heard-fails n (Hears k) id place before middle after packet frames first payload next Rises Rose _ w read acts up (unwritten moved) =
+heard-fails (Hears k) id place before middle after packet frames first payload next Rises Rose _ w read acts up (unwritten moved) =
     ends-no_memory [] (read.head ++ []) [] 0 (Waits Between) (moved-more before middle after read.head [] [] [] read.moved moved) (waits k id place [] Between refl)
-heard-fails n (Says said k) id place before middle after packet frames first payload next Rises Rose _ w read acts up fails = absurd w
-heard-fails n (Over e) id place before middle after packet frames first payload next Rises Rose _ w read acts up fails = absurd w
+heard-fails (Says said k) id place before middle after packet frames first payload next Rises Rose end w read acts up fails = absurd w
+heard-fails (Over e) id place before middle after packet frames first payload next Rises Rose end w read acts up fails = absurd w
 
 -- between packets nothing is held
 pub held-between : (frames : Framing) (id place : ℕ) → frames ≡ between id place → held_length frames ≡ 0

@@ -1,7 +1,8 @@
 -- A talk over a connection: the payloads stand in packets, whose sequence ids rise by one over both directions
 -- ("MySQL Packets" of the MySQL client/server protocol documentation).
-use Rattle.std.specs.Prelude.{◌≡◌, ◌⊎◌, ℕ, zero, suc, ◌+◌, List, [], ◌++◌, length, take, Option, Some, None}
+use Rattle.std.specs.Prelude.{◌≡◌, ◌⊎◌, ℕ, zero, suc, ◌+◌, List, [], ◌++◌, length, take, Option}
 use Rattle.lg_outside.specs.Traffic.{Traffic}
+use Rattle.link_packets.specs.Moving.{IsAtEnd, Moved}
 use Rattle.packet_frame.specs.Packets.{id_after, IsPacket}
 use Rattle.packet_frame.specs.Streams.{Ending, Between, Cut, Faulty, IsEnding}
 use Rattle.packet_frame.specs.declared.packets.FrameFault.{FrameFault}
@@ -33,17 +34,6 @@ pub data IsExchange : Talk → (id place : ℕ) → (got sent : List ℕ) → St
       → IsExchange (Hears k) (id_after last) place got sent stand
       → IsExchange (Says said k) id place got (text ++ sent) stand
   over : (end : LoginEnd) (id place : ℕ) → IsExchange (Over end) id place [] [] (Ends end)
-
--- what was read from a link and written to it between two moments, where it tells that
-abbrev pub Moved : Option Traffic → Option Traffic → (got sent : List ℕ) → Type 0
-Moved None after got sent = after ≡ None
-Moved (Some t) after got sent =
-    (left : List ℕ) × (t.left ≡ got ++ left) × (after ≡ Some (record { read = t.read ++ got; left = left; written = t.written ++ sent }))
-
--- a link at the end of what its peer sent
-abbrev pub IsAtEnd : Option Traffic → Type 0
-IsAtEnd None = Unit {0}
-IsAtEnd (Some t) = t.left ≡ []
 
 -- between packets or within one
 abbrev pub IsOpen : Ending → Type 0

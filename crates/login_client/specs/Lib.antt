@@ -7,10 +7,10 @@ pub mod Heard
 pub mod Hearing
 pub mod Methods
 pub mod Phases
-pub mod Reading
 pub mod Reasons
 pub mod Secrets
 pub mod Talk
 pub mod Talked
+pub mod Turning
 pub mod Whole
 pub mod Zeros

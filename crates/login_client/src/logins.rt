@@ -3,92 +3,48 @@
 //! MySQL client/server protocol documentation, "Connection Phase" and "MySQL Packets".
 
 ghost use Rattle.lg_outside.specs.Faults.{Rose};
+ghost use Rattle.link_packets.specs.Reading.{between};
 ghost use Rattle.login_client.specs.Claims.{AreFit, AreUsable};
 ghost use Rattle.login_client.specs.Zeros.{HasNoZero};
 ghost use Rattle.login_client.specs.Clients.{talk_of};
 ghost use Rattle.login_client.specs.Conversation.{conversation};
 ghost use Rattle.login_client.specs.Exchange.{EndsAs, EndsWithin};
-ghost use Rattle.login_client.specs.Reading.{Fails, GoesOn, ReadsPacket, Stops, Writes, between, end_at};
 ghost use Rattle.login_client.specs.Talk.{IsWaiting};
-ghost use Rattle.std.specs.Prelude.{◌≡◌, ℕ, ◌≤◌, ◌+◌, ◌^◌, IfErr, IfNone, IfOk, IfSome, false};
+ghost use Rattle.login_client.specs.Turning.{GoesOn, end_of_read, end_of_write};
+ghost use Rattle.std.specs.Prelude.{◌≡◌, ℕ, ◌≤◌, ◌^◌, IfNone, IfSome, false};
 
 use crate::claims::{ClientOptions, Secrets};
 use crate::client::Client;
 use crate::ends::{ClientAct, LoginEnd};
-use lg_base::{Memory, Out};
+use lg_base::Memory;
 use lg_outside::Link;
-use packet_frame::{FrameFault, Frames, Packet, Want, write_packet};
-use packet_stream::MAX_PAYLOAD;
+use link_packets::{ReadEnd, WriteEnd, new_reader, read_packet, write_packets};
+use packet_frame::{Frames, Want};
+use packet_stream::id_behind;
 use std::alloc::Global;
 
 /// The most packets of a server in a login: the greeting, a switch, more data, two further factors, OK or ERR.
 const MOST_PACKETS: u32 = 6;
 
-/// Bytes read at a time.
-const PIECE: usize = 4096;
-
-/// How a login ends at a fault of its packets.
-fn end_at(fault: FrameFault) -> LoginEnd
-    ensures { result ≡ end_at fault }
+/// How a login ends where no packet was read.
+fn end_of_read(end: ReadEnd) -> LoginEnd
+    ensures { result ≡ end_of_read end }
 {
-    match fault {
-        FrameFault::Memory => LoginEnd::Memory,
-        FrameFault::TooLarge { .. } | FrameFault::OutOfOrder { .. } => LoginEnd::Framing(fault),
+    match end {
+        ReadEnd::Faulty(fault) => LoginEnd::Framing(fault),
+        ReadEnd::Closed { .. } => LoginEnd::PeerClosed,
+        ReadEnd::Failed => LoginEnd::LinkFault,
+        ReadEnd::Memory => LoginEnd::Memory,
     }
 }
 
-/// Reads the next packet, and no byte behind it.
-fn read_packet<L: Link>(link: &mut L, frames: &mut Frames) -> Result<Packet, LoginEnd>
-    requires open { L.finished link.old ≡ false }
-    requires begun { (id place : ℕ) × (frames.old ≡ between id place) × (place ≤ 2 ^ 32) }
-    ensures packet { (id place : ℕ) → frames.old ≡ between id place →
-        IfOk result (λ packet. ReadsPacket id place (L.told link.old) (L.told link.new) packet frames.new) }
-    ensures stops { (id place : ℕ) → frames.old ≡ between id place →
-        IfErr result (λ end. Stops id place (L.told link.old) (L.told link.new) (Rose (L.fault_count link.old) (L.fault_count link.new)) end) }
-    ensures stays { L.finished link.new ≡ false }
-    ensures place { L.local link.new ≡ L.local link.old }
-    ensures dialled { L.dialled link.new ≡ L.dialled link.old }
-    ensures rising { L.fault_count link.old ≤ L.fault_count link.new }
+/// How a login ends where a packet wasn't written whole.
+fn end_of_write(end: WriteEnd) -> LoginEnd
+    ensures { result ≡ end_of_write end }
 {
-    let mut piece = [0u8; PIECE];
-    'reads: loop {
-        let room = frames.missing().min(PIECE);
-        let count = match link.read(&mut piece[..room]) {
-            Ok(count) => count,
-            Err(_) => return Err(LoginEnd::LinkFault),
-        };
-        if count == 0 {
-            return Err(LoginEnd::PeerClosed);
-        }
-        match frames.feed(&piece[..count]) {
-            Ok(_) => {}
-            Err(fault) => return Err(end_at(fault)),
-        }
-        match frames.take() {
-            Some(packet) => return Ok(packet),
-            None => {}
-        }
-    }
-}
-
-/// Writes a payload in a packet with this sequence id, and answers the id that the next packet must have.
-fn send<L: Link>(alloc: Global, link: &mut L, first: u8, payload: &[u8]) -> Result<u8, LoginEnd>
-    requires { L.finished link.old ≡ false }
-    ensures sent { IfOk result (λ next. Writes first payload.now (L.told link.old) (L.told link.new) next) }
-    ensures cut { IfErr result (λ end. Fails first payload.now (L.told link.old) (L.told link.new) (Rose (L.fault_count link.old) (L.fault_count link.new)) end) }
-    ensures stays { L.finished link.new ≡ false }
-    ensures place { L.local link.new ≡ L.local link.old }
-    ensures dialled { L.dialled link.new ≡ L.dialled link.old }
-    ensures rising { L.fault_count link.old ≤ L.fault_count link.new }
-{
-    let mut text = Out::new(alloc);
-    let next = match write_packet(first, payload, &mut text) {
-        Ok(next) => next,
-        Err(Memory) => return Err(LoginEnd::Memory),
-    };
-    match link.write_all(text.as_slice()) {
-        Ok(()) => Ok(next),
-        Err(_) => Err(LoginEnd::LinkFault),
+    match end {
+        WriteEnd::Failed => LoginEnd::LinkFault,
+        WriteEnd::Memory => LoginEnd::Memory,
     }
 }
 
@@ -113,7 +69,7 @@ fn turn<L: Link>(
 {
     let packet = match read_packet(link, frames) {
         Ok(packet) => packet,
-        Err(end) => return Some(end),
+        Err(end) => return Some(end_of_read(end)),
     };
     let act = match client.on(&packet) {
         Ok(act) => act,
@@ -124,12 +80,13 @@ fn turn<L: Link>(
         Some(ClientAct::Done(end)) => return Some(end),
         Some(ClientAct::Send { first, payload }) => (first, payload),
     };
-    match send(alloc, link, first, payload.as_slice()) {
-        Ok(next) => {
+    let next = id_behind(first, payload.as_slice());
+    match write_packets(alloc, link, first, &[payload]) {
+        Ok(()) => {
             frames.expect(Want::Exactly(next));
             None
         }
-        Err(end) => Some(end),
+        Err(end) => Some(end_of_write(end)),
     }
 }
 
@@ -166,7 +123,7 @@ pub fn login<L: Link>(
         Ok(client) => client,
         Err(Memory) => return LoginEnd::Memory,
     };
-    let mut frames = Frames::new(alloc, MAX_PAYLOAD, Want::Exactly(0));
+    let mut frames = new_reader(alloc);
     'turns: for _count in 0..MOST_PACKETS {
         match turn(alloc, link, &mut client, &mut frames) {
             Some(end) => return end,

@@ -60,7 +60,7 @@ one_more (Asks q k) m n h fits = (
       (λ left. (given : Input) → IsTrue (answers q given) → Fits (suc m) left (held_after h (ask_of q) given) (k given))
       (λ left goes_on given is. one_more (k given) m left (held_after h (ask_of q) given) (goes_on given is)) fits.1,
 )
-one_more (Over how) m n h fits = tt
+one_more (Over how) m n h fits = fits
 
 -- ## Statements
 

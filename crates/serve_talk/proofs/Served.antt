@@ -7,7 +7,7 @@ use Rattle.link_packets.specs.Moving.{IsAtEnd, Moved}
 use Rattle.packet_frame.specs.declared.packets.Packet.{Packet}
 use Rattle.packet_stream.specs.Packing.{packets_text}
 use Rattle.packet_stream.specs.Sent.{Sent}
-use Rattle.packet_stream.specs.Streams.{Stream}
+use Rattle.packet_stream.specs.Streams.{Stream, all_of}
 use Rattle.session_talk.specs.Given.{IsDone, Transcribes, asked_after, begins, end_in}
 use Rattle.session_talk.specs.Runs.{IsLive, Standing, packets_in, spoken, stands_after}
 use Rattle.session_talk.specs.Talk.{SessionTalk}
@@ -21,15 +21,25 @@ use Rattle.session_talk.specs.declared.inputs.Input.{Input}
 use Rattle.session_talk.specs.declared.inputs.Input.TheVariants as input
 use Rattle.session_talk.proofs.Asking.{own_answer, untrue}
 use Rattle.session_talk.proofs.Transcripts.{runs_are_transcripts}
-use Rattle.serve_talk.specs.Fitting.{is_call}
+use Rattle.serve_talk.specs.Fitting.{IsDecided, is_call}
 use Rattle.serve_talk.specs.Paths.{Anything, Behind, Halts, Is, IsIdle, Leads, Loose, Path, PathsAreServed, Point, Rested, TheEnd, Turned, Wrote, ahead, book_end, closed, from, moment, nothing_loose, over, standing, stopped, unsaid}
 use Rattle.serve_talk.specs.Serving as serving
-use Rattle.serve_talk.specs.Serving.{Finishes, IsCause, Serves, Spoke}
+use Rattle.serve_talk.specs.Serving.{CameToCall, Finishes, IsCause, Serves, Spoke}
 use Rattle.serve_talk.specs.Sides.{GaveAll, Moment, nonces_in}
 use Rattle.serve_talk.specs.declared.endings.Ending.{Ending}
 use Rattle.serve_talk.specs.declared.endings.Ending.TheVariants.{Told, BookEnd}
+use Rattle.serve_talk.proofs.Decided.{IsDecidedAsk, asked_decided}
 use Rattle.serve_talk.proofs.Grown.{nonces_of_owns}
 use Rattle.serve_talk.proofs.Walked.{leads_more, leads_none, path_last, path_rest, wrote_all}
+
+-- a call isn't a packet that is waited for, nor an end
+call_done : (peer : Peer) (a : Ask) (left : Stream) → is_call a ≡ true → IsDone peer a left
+call_done peer (ask.Read want) left is = absurd (untrue is)
+call_done peer _ left is = tt
+
+call_none : (a : Ask) → is_call a ≡ true → end_in a ≡ None
+call_none (ask.Ended how) is = absurd (untrue is)
+call_none _ is = refl
 
 -- the bytes that a path reads have a transcript, where nothing more comes of what stands behind them
 module _ (id : ℕ) (x : Moment) (behind : Behind) (z : Point) (loose : Loose) (path : Path behind (from id x) z loose) where
@@ -54,6 +64,30 @@ module _ (id : ℕ) (x : Moment) (behind : Behind) (z : Point) (loose : Loose) (
             (sym (ap (λ (l : List Input). nonces_in l) t.answers ∙ nonces_of_owns path.inputs)) path.grew.drew;
         spent = omega (arith, path.spent, ap (λ (l : List Packet). length l) t.packets);
       })
+
+  came_to_call : (rest : List ℕ) → Is behind Open rest → is_call at_end ≡ true → CameToCall id (path.got ++ rest) path.entries told x (moment z)
+  came_to_call rest is call =
+      let called : is_call (asked_after id path.inputs) ≡ true = ap (λ (a : Ask). is_call a) (sym asked_is) ∙ call in
+      let t : Transcribes id Open (path.got ++ rest) path.entries path.inputs =
+      runs_are_transcripts.whole id Open (path.got ++ rest) path.entries path.inputs (ahead z rest) path.answers (path.given Open rest is)
+      (call_done Open (asked_after id path.inputs) (ahead z rest) called) in
+      record {
+        spoke = record {
+          script = record {
+            owns = t.transcript.owns;
+            entered = t.transcript.entered;
+            sends = t.transcript.sends;
+            ends = sym (call_none (asked_after id path.inputs) called) ∙ t.transcript.ends;
+          };
+          drew = subst (λ (l : List (List ℕ)). GaveAll x.side.draws z.side.draws l)
+              (sym (ap (λ (l : List Input). nonces_in l) t.answers ∙ nonces_of_owns path.inputs)) path.grew.drew;
+          spent = omega (arith, path.spent, ap (λ (l : List Packet). length l) t.packets);
+        };
+        inputs = path.inputs;
+        answers = t.answers;
+        packets = t.packets;
+        asks = called;
+      }
 
   serves : (Rises : Type 0) (how : Ending) → Finishes id path.entries x (moment z) Rises how → Serves id x (moment z) Rises how
   serves Rises how finishes = record { entries = path.entries; finishes = finishes; nonces = nonces_in path.inputs; grew = path.grew }
@@ -82,8 +116,11 @@ over_path : (id : ℕ) (x : Moment) (p : Point) (Rises : Type 0) (how : SessionE
     → Serves id x (moment p) Rises (Told how)
 over_path id x p Rises how path is =
     let sent = told id x Anything p nothing_loose path in
+    let known : IsDecidedAsk (asked_after id path.inputs) =
+    asked_decided id path.inputs (all_of (path.got ++ [])) path.entries (ahead p []) path.answers (path.given Open [] tt) in
+    let end_is : IsDecided how = subst (λ (a : Ask). IsDecidedAsk a) (sym (asked_is id x Anything p nothing_loose path) ∙ is) known in
     serves id x Anything p nothing_loose path Rises (Told how)
-    (serving.decided path.got sent how (wrote_all (from id x) p path.got (packets_text sent) path.wrote)
+    (serving.decided path.got sent how end_is (wrote_all (from id x) p path.got (packets_text sent) path.wrote)
     (λ behind. subst (λ (a : Ask). Spoke id Open (path.got ++ behind) path.entries sent (end_in a) x (moment p)) is
     (spoke id x Anything p nothing_loose path Open behind tt (done_over Open (asked p.next p.at) how (ahead p behind) is))))
 
@@ -107,19 +144,10 @@ closed_path : (id : ℕ) (x : Moment) (z : Point) (Rises : Type 0) (cut : Bool) 
 closed_path id x z Rises cut path is at_the_end =
     let sent = told id x TheEnd z nothing_loose path in
     serves id x TheEnd z nothing_loose path Rises (Told (end.PeerClosed cut))
-    (serving.closed path.got sent (end.PeerClosed cut) (wrote_all (from id x) z path.got (packets_text sent) path.wrote) at_the_end
+    (serving.closed path.got sent cut (wrote_all (from id x) z path.got (packets_text sent) path.wrote) at_the_end
     (subst (λ (got : List ℕ). Spoke id Closed got path.entries sent (Some (end.PeerClosed cut)) x (moment z)) (append-nil path.got)
     (subst (λ (a : Ask). Spoke id Closed (path.got ++ []) path.entries sent (end_in a) x (moment z)) is
     (spoke id x TheEnd z nothing_loose path Closed [] (refl, refl) (done_over Closed (asked z.next z.at) (end.PeerClosed cut) (ahead z []) is)))))
-
--- a call isn't a packet that is waited for, nor an end
-call_done : (peer : Peer) (a : Ask) (left : Stream) → is_call a ≡ true → IsDone peer a left
-call_done peer (ask.Read want) left is = absurd (untrue is)
-call_done peer _ left is = tt
-
-call_none : (a : Ask) → is_call a ≡ true → end_in a ≡ None
-call_none (ask.Ended how) is = absurd (untrue is)
-call_none _ is = refl
 
 halted : (id : ℕ) (x y : Moment) (p : Point) (Rises : Type 0) (how : Ending) → Leads (from id x) p → Halts p y Rises how → Serves id x y Rises how
 halted id x y p Rises _ leads (over given z how turned same is) =
@@ -145,8 +173,7 @@ halted id x y p Rises _ leads (book_end z rested same ended call) =
     (serves id x Anything z nothing_loose path Rises BookEnd
     (serving.book_end path.got sent (wrote_all (from id x) z path.got (packets_text sent) path.wrote)
     (subst (λ (m : Moment). m.side.ended ≡ true) (sym same) ended)
-    (λ behind. subst (λ (how : Option SessionEnd). Spoke id Open (path.got ++ behind) path.entries sent how x (moment z)) (call_none (asked z.next z.at) asked_is)
-    (spoke id x Anything z nothing_loose path Open behind tt (call_done Open (asked z.next z.at) (ahead z behind) asked_is)))))
+    (λ behind. came_to_call id x Anything z nothing_loose path behind tt asked_is)))
 
 pub paths_are_served : PathsAreServed
 paths_are_served = record {

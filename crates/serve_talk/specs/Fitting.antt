@@ -12,6 +12,8 @@ use Rattle.session_talk.specs.Talk.{SessionTalk}
 use Rattle.session_talk.specs.Turns.{answers, ask_of}
 use Rattle.session_talk.specs.declared.actions.Ask.{Ask}
 use Rattle.session_talk.specs.declared.actions.Ask.TheVariants as ask
+use Rattle.session_talk.specs.declared.ends.SessionEnd.{SessionEnd}
+use Rattle.session_talk.specs.declared.ends.SessionEnd.TheVariants as end
 use Rattle.session_talk.specs.declared.inputs.Input.{Input}
 use Rattle.session_talk.specs.declared.inputs.Input.TheVariants as input
 
@@ -96,8 +98,16 @@ Spending false calls goes_on = goes_on calls
 Spending true zero goes_on = ⊥
 Spending true (suc calls) goes_on = goes_on calls
 
+-- an end that a talk comes to by what it was sent and answered: the peer's close, a failed link and want of memory come from
+-- outside
+abbrev pub IsDecided : SessionEnd → Type 0
+IsDecided (end.PeerClosed cut) = ⊥
+IsDecided end.LinkFault = ⊥
+IsDecided end.Memory = ⊥
+IsDecided _ = Unit {0}
+
 -- From here a talk reads at most so many packets, makes at most so many calls before the next packet and at most five after
--- each, and each call has what it needs.
+-- each, each call has what it needs, and the talk ends by what it was sent and answered.
 abbrev pub Fits : (packets calls : ℕ) → Held → SessionTalk → Type 0
 Fits m n h (Says payload t) = Fits m n h t
 Fits zero n h (Hears anew k) = ⊥
@@ -105,7 +115,7 @@ Fits (suc m) n h (Hears anew k) = (payload : List ℕ) → Fits m 5 h (k (Got pa
 Fits m n h (Asks q k) =
     MayAsk h (ask_of q)
     × Spending (is_call (ask_of q)) n (λ left. (given : Input) → IsTrue (answers q given) → Fits m left (held_after h (ask_of q) given) (k given))
-Fits m n h (Over how) = Unit {0}
+Fits m n h (Over how) = IsDecided how
 
 -- the response to the greeting, the answer to a switch, the password, and the commands
 abbrev pub most_packets : ℕ

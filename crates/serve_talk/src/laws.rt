@@ -4,7 +4,8 @@ ghost use Rattle.serve_talk.specs.Fitting.{SessionsFit};
 ghost use Rattle.serve_talk.specs.Paths.{PathsAreServed};
 
 /// A session makes its calls in the order in which they may be made: it settles or commits on the ticket of the very look
-/// that it checked or prepared on, at most five calls come after a packet, and it reads at most so many packets.
+/// that it checked or prepared on, at most five calls come after a packet, and it reads at most so many packets. It ends by
+/// what it was sent and answered.
 pub fn sessions_fit()
     ensures { SessionsFit }
 {}

@@ -12,9 +12,9 @@ ghost use Rattle.shared_accounts.specs.Beginnings.{BeganRecorded};
 ghost use Rattle.shared_accounts.specs.Desks.{desk_start};
 ghost use Rattle.shared_accounts.specs.Sharing.{Extends, FailedLook, HasLook, IsCommitted, IsCommittedLocked, IsSettled, IsSettledLocked, Looked, OwnHasStood, Sits, no_salt, seen};
 ghost use Rattle.std.specs.List.{All};
-ghost use Rattle.std.specs.Prelude.{◌≡◌, ◌≤◌, false, List, ℕ, IfErr, IfOk, IfSome, IsSome, Some};
+ghost use Rattle.std.specs.Prelude.{◌≡◌, ◌≤◌, [], false, List, ℕ, IfErr, IfOk, IfSome, IsSome, Some};
 ghost use Rattle.turn_book.specs.Book.{Joined, began, view};
-ghost use Rattle.turn_book.specs.Views.{CarriesAll, entries_seen, first_view, left, left_behind, right};
+ghost use Rattle.turn_book.specs.Views.{CarriesAll, entries_seen, first_view, left, left_behind, mine, right};
 
 use crate::calls::{
     AttemptCall, CommitCall, LockedAttemptCall, LockedCommitCall, LookCall, Outcome,
@@ -87,6 +87,7 @@ impl<K: Keeper + Drop> SharedAccounts<K> {
         ensures own { Sits self.now seat.new × Sits self.now result }
         ensures old { view seat.new ≡ left (view seat.old) }
         ensures new { view result ≡ right (view seat.old) }
+        ensures unmade { mine (view result) ≡ [] }
     {
         self.book.split(seat)
     }

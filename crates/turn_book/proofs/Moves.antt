@@ -15,9 +15,10 @@ use Rattle.turn_book.specs.declared.view.Made.{Made}
 use Rattle.turn_book.specs.declared.view.View.{View}
 use Rattle.turn_book.specs.Views.{number_of, entry_of, signed, first_view, opened_at, finished, waiting, holding, left, right, both, spent_view, left_behind}
 use Rattle.turn_book.specs.Turns.{HasRoom}
-use Rattle.turn_book.specs.Steps.{Sat, found, drew, told, looked, passed}
+use Rattle.turn_book.specs.Steps.{Sat, found, drew, told, looked, passed, unmade}
 use Rattle.turn_book.specs.Rule.{Turn, a_turn, made_in, made_by, log_of, Books, Home, Kept}
 use Rattle.turn_book.proofs.Lists.{drop_front}
+use Rattle.turn_book.proofs.Seats.{next_unmade}
 use Rattle.turn_book.proofs.Entries.{made_by_short, entries_unsigned, entries_signed, signed_list, entries_log, log_more, idle_turns}
 use Rattle.turn_book.proofs.Books.{granted, fits, ends, draws, not_ended, none_own, waits, takes_turn, holds_turn, passes_turn, splits_seat, hands_over, joins_seats, new_log_is, starts_books}
 
@@ -147,6 +148,17 @@ module _ {O S E : Type 0} (start : O → S) (entries : O → List E) (open_as : 
       kept_with s k k.next (slice_set s.words 0 (slice_index s.words 0)) k.owner (set s.views id m.0) (next_set s k (slice_index s.words 0) ∙ ap (λ (n : ℕ). n ∷ k.serving ∷ []) (next_word s k))
           (subst (Books open_as k.next k.serving k.first k.old k.turns k.out k.owner) (sym (set_again s.views id m.0 at)) k.books),
       (refl, (k.books.each_seat id m.0 at).meeting),
+    )
+
+    -- the seat is told that nothing was made by the number that is split off next
+    pub unmakes : 0 < length m.0.carried → Allows Rule slots id m 0 (λ n. n) (unmade (step slots 0 0 0 none) m)
+    unmakes some_number s k h at small = (
+      m.0,
+      keeps,
+      tt {0},
+      kept_with s k k.next (slice_set s.words 0 (slice_index s.words 0)) k.owner (set s.views id m.0) (next_set s k (slice_index s.words 0) ∙ ap (λ (n : ℕ). n ∷ k.serving ∷ []) (next_word s k))
+          (subst (Books open_as k.next k.serving k.first k.old k.turns k.out k.owner) (sym (set_again s.views id m.0 at)) k.books),
+      (refl, next_unmade open_as k.next k.serving k.first k.old k.turns k.out k.owner s.views k.books id m.0 at some_number),
     )
 
     -- the object is at home where the turn of a waiting seat has come

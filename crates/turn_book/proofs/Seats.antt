@@ -1,5 +1,5 @@
 -- The rule holds what is said of all seats.
-use Rattle.std.proofs.Common.{◌≡◌, ◌≢◌, ℕ, ◌<◌, Bool, true, List, [], ◌∷◌, ◌++◌, map, length, Option, Some, None, refl, sym, ap, ◌∙◌, arith}
+use Rattle.std.proofs.Common.{◌≡◌, ◌≢◌, ◌⊎◌, ℕ, suc, ◌<◌, Bool, true, List, [], ◌∷◌, ◌++◌, map, length, Option, Some, None, refl, sym, ap, ◌∙◌, inl, ⊎_elim, arith}
 use mathlib.Core.Option.{some}
 use lib.ListN.{get_elem?}
 use Rattle.atomic_table.specs.Table.{State}
@@ -7,16 +7,21 @@ use Rattle.atomic_table.proofs.Lists.{at_map, at_longer}
 use Rattle.turn_book.specs.declared.view.Branch.{Branch}
 use Rattle.turn_book.specs.declared.view.Made.{Made}
 use Rattle.turn_book.specs.declared.view.View.{View}
-use Rattle.turn_book.specs.Views.{CarriesNumber, Apart, by_any}
+use Rattle.turn_book.specs.Views.{branch, Carries, CarriesNumber, Apart, NoneBy, by_any, next_number}
 use Rattle.turn_book.specs.Rule.{Turn, log_of, SeatCarries, Family, carried_of, Books, Kept}
 use Rattle.turn_book.specs.Seats.{OwnsPlace, SeatsStand}
 use Rattle.turn_book.proofs.Lists.{at_same}
-use Rattle.turn_book.proofs.Entries.{by_any_is, off}
+use Rattle.turn_book.proofs.Entries.{by_any_is, none_by, not_true, off}
 
 -- a number that wasn't split off yet, or was split off below such a one, is carried by no seat
 unused_number : (cs : List (List Branch)) (f : Family cs) (i k l : ℕ) (n below : List ℕ) → SeatCarries cs i n k → k < l → (j r : ℕ) → SeatCarries cs j (below ++ l ∷ n) r → ⊥
 unused_number cs f i k l n [] c late j r d = let h = (f.below n j l r i k d c).1 in omega arith
 unused_number cs f i k l n (b ∷ bs) c late j r d = let p = f.parent (bs ++ l ∷ n) j b r d in unused_number cs f i k l n bs c late p.0 p.1 p.2
+
+-- the number that is split off next, by the first number that is carried
+next_above : (bs : List Branch) → 0 < length bs → (n : List ℕ) × (k : ℕ) × Carries bs n k × (next_number bs ≡ suc k ∷ n)
+next_above [] h = absurd (omega arith)
+next_above (b ∷ bs) h = (b.number, b.splits, inl (refl, refl), refl)
 
 module _ {S E : Type 0} (open_as : S → List E → Type 0) (next serving : ℕ) (first : S) (old : List E) (turns : List (Turn E)) (out : Bool) (owner : ℕ → ℕ) (views : List (View S E)) (k : Books open_as next serving first old turns out owner views) where
   carries_at : (i : ℕ) (v : View S E) (n : List ℕ) (c : CarriesNumber v.carried n) → get_elem? views i ≡ some v → SeatCarries (map carried_of views) i n c.0
@@ -64,6 +69,17 @@ module _ {S E : Type 0} (open_as : S → List E → Type 0) (next serving : ℕ)
         let h = k.makers p m (below ++ l ∷ n) f by in
         unused_number (map carried_of views) k.family i r l n below (carries_at i v n (r, c) e) late h.0 h.3.0 (carries_at h.0 h.1 (below ++ l ∷ n) h.3 h.2);
   }
+
+  -- no entry that a seat has seen was made by the number that is split off next from it
+  pub next_unmade : (i : ℕ) (v : View S E) → get_elem? views i ≡ some v → 0 < length v.carried → NoneBy (branch (next_number v.carried) 0 ∷ []) v.seen
+  next_unmade i v e some_number =
+      let at = next_above v.carried some_number in
+      let bs : List Branch = branch (next_number v.carried) 0 ∷ [] in
+      none_by bs v.seen (λ p m f. not_true (by_any bs m.by) (λ yes.
+      let x = maker_of bs m.by yes in
+      let is : next_number v.carried ≡ x.0 = ⊎_elim (λ (h : (next_number v.carried ≡ x.0) × (0 ≡ x.2.0)). h.0) (λ z. absurd z) x.2.1 in
+      let by : m.by ≡ Some (suc at.1 ∷ at.0) = x.1 ∙ ap (λ (n : List ℕ). Some n) (sym is ∙ at.3) in
+      stand.unmade i at.1 (suc at.1) p v m at.0 [] e at.2 (omega arith) (whole_place i p v m e f) by))
 
 pub kept_stand : {O S E : Type 0} (start : O → S) (entries : O → List E) (open_as : S → List E → Type 0) (s : State O (View S E)) (k : Kept start entries open_as s) → SeatsStand k.next (log_of k.old k.turns) s.views
 kept_stand start entries open_as s k = stand open_as k.next k.serving k.first k.old k.turns k.out k.owner s.views k.books

@@ -5,7 +5,7 @@ use Rattle.turn_book.specs.declared.view.Stage.TheVariants.{Waiting}
 use Rattle.turn_book.specs.declared.view.Made.{Made}
 use Rattle.turn_book.specs.declared.view.Met.{Met}
 use Rattle.turn_book.specs.declared.view.View.{View}
-use Rattle.turn_book.specs.Views.{Apart, NoneBy, entry_of, finished, waiting, holding, resting}
+use Rattle.turn_book.specs.Views.{Apart, NoneBy, branch, entry_of, next_number, finished, waiting, holding, resting}
 use Rattle.turn_book.specs.Turns.{HasRoom}
 
 -- the list goes on from what was seen, and no entry behind that was made by the numbers carried
@@ -31,6 +31,10 @@ module _ {O S E : Type 0} where
 
   abbrev pub told : Step O → Sat O S E → ℕ → Sat O S E → Type 0
   told st m r n = (n ≡ m) × Meeting m.0.one m.0.two
+
+  -- no entry that the seat has seen was made by the number that is split off next
+  abbrev pub unmade : Step O → Sat O S E → ℕ → Sat O S E → Type 0
+  unmade st m r n = (n ≡ m) × NoneBy (branch (next_number m.0.carried) 0 ∷ []) m.0.seen
 
   module _ (start : O → S) (entries : O → List E) (opening : S → List E → Type 0) where
     -- the turn t has come: the seat has the object, which stands for all that the seat has now seen

@@ -3,13 +3,13 @@
 ghost use Rattle.std.specs.Prelude.{◌≡◌, ◌≢◌, ◌+◌, ◌<◌, ◌≤◌, ◌^◌, ◌++◌, true, false, List, [], ◌∷◌, map, length, Some, Ok, Err, IfSome, IfNone, IfOk, IsSome, OnErr, option_to_list};
 ghost use Rattle.turn_book.specs.declared.view.Stage.TheVariants.{Idle, Waiting, Holding};
 ghost use Rattle.turn_book.specs.declared.object.TurnFault.{TurnFault};
-ghost use Rattle.turn_book.specs.Views.{CarriesAll, Extends, entry_of, entries_seen, first_view, opened_at, finished, waiting, left, right, left_behind, resting};
+ghost use Rattle.turn_book.specs.Views.{CarriesAll, Extends, entry_of, entries_seen, first_view, opened_at, finished, mine, waiting, left, right, left_behind, resting};
 ghost use Rattle.turn_book.specs.Turns.{HasRoom};
 ghost use Rattle.turn_book.specs.Steps.{Took};
 ghost use Rattle.turn_book.specs.Book.{view, began, IsOf, IsReady, IsPassed, Applied, Ended, Served, Declined, Joined, HasOpenTurn};
 
 use crate::object::{Applies, Object, TurnFault};
-use crate::rule::{Branches, Draw, Find, HandOver, Look, Meets, Opened, Pass, Tell};
+use crate::rule::{Branches, Draw, Find, HandOver, Look, Meets, Opened, Pass, Tell, Unmade};
 use crate::seat::{Place, Seat, TurnBook};
 use atomic_table::Table;
 use lg_base::Memory;
@@ -55,7 +55,10 @@ impl<O: Object> TurnBook<O> {
         ensures own { IsOf O.start self.now seat.new × IsOf O.start self.now result }
         ensures old { view seat.new ≡ left (view seat.old) }
         ensures new { view result ≡ right (view seat.old) }
+        ensures unmade { mine (view result) ≡ [] }
     {
+        // This step changes nothing: it tells the seat that the number split off next has made no entry.
+        self.table.shared.load::<Unmade>(&mut seat.place, NEXT);
         Seat {
             place: self.table.shared.split_seat::<Branches>(&mut seat.place),
         }

@@ -2,13 +2,13 @@
 //!
 //! Word 0 is the next ticket, word 1 the ticket that is served, and slot 0 has the object. The seat whose
 //! ticket is served takes the object out in the step that shows it that it is its turn, and gives it back in
-//! the step that passes the turn on. So there are eight kinds of step: find the next ticket, draw it, look
+//! the step that passes the turn on. So there are nine kinds of step: find the next ticket, draw it, look
 //! whether one's turn has come (and take the object where it has), give the object back and pass the turn
-//! on, split a seat, join two seats, tell a seat what its meeting showed, and hand all numbers over to a new
-//! seat before the book is closed.
+//! on, tell a seat that nothing was made by the number that is split off next, split a seat, join two seats, tell
+//! a seat what its meeting showed, and hand all numbers over to a new seat before the book is closed.
 
 ghost use Rattle.turn_book.specs.Views.{first_view, opened_at, left, right, both, spent_view, left_behind};
-ghost use Rattle.turn_book.specs.Steps.{found, drew, looked, passed, told};
+ghost use Rattle.turn_book.specs.Steps.{found, drew, looked, passed, told, unmade};
 ghost use Rattle.turn_book.specs.Rule.{Kept};
 
 use crate::object::Object;
@@ -61,6 +61,12 @@ pub(crate) struct Tell;
 
 impl<O, S, E> Play<O, View<S, E>> for Tell {
     ghost then = { told };
+}
+
+pub(crate) struct Unmade;
+
+impl<O, S, E> Play<O, View<S, E>> for Unmade {
+    ghost then = { unmade };
 }
 
 pub(crate) struct Branches;

@@ -1,6 +1,7 @@
 -- What was read is held, and is less than a packet.
 use Rattle.std.proofs.Common.{◌≡◌, ◌-◌, ◌≤◌, [], length, false}
 use Rattle.link_packets.specs.Moving.{Moved}
+use Rattle.link_packets.specs.Reading.{longest_packet}
 use Rattle.link_packets.proofs.Packets.{IsPartRead}
 use Rattle.link_packets.proofs.reading.read_packet.Given as goal
 
@@ -16,4 +17,4 @@ invariant-reads g l = record {
 }
 
 abbrev pub decreases-reads : goal.decreases-reads
-decreases-reads g l = 1048580 - length l.frames.held
+decreases-reads g l = longest_packet - length l.frames.held

@@ -13,8 +13,8 @@ pub turns-init : goal.turns-init
 turns-init g c =
     let claim = λ (local : Bool). let made : Claim = record { user = c.args.user.now; secrets = c.args.secrets.now; options = c.args.options.now; local = local } in made in
     record {
-      reached = reached-none (conversation (claim (g.L.Link.local c.args.link.now))) (talk_of c.in-Ok.client) (g.L.Link.told c.args.link.now) c.new-frames.result
-          (c.in-Ok.ensures ∙ ap (λ (local : Bool). conversation (claim local)) c.is_local.ensures) tt (login-within (claim (g.L.Link.local c.args.link.now))) c.new-frames.ensures.starts;
+      reached = reached-none (conversation (claim (g.L.Link.local c.args.link.now))) (talk_of c.in-Ok.client) (g.L.Link.told c.args.link.now) c.new_reader-frames.result
+          (c.in-Ok.ensures ∙ ap (λ (local : Bool). conversation (claim local)) c.is_local.ensures) tt (login-within (claim (g.L.Link.local c.args.link.now))) c.new_reader-frames.ensures;
       unfinished = c.requires.open;
       place = refl;
       dialled = refl;
