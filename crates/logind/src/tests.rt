@@ -8,6 +8,7 @@ use lg_outside::{MemoryLink, MemorySink};
 use server_outside::{ListMaker, MemoryDoor, PairGate};
 use std::alloc::{AllocError, Global};
 use std::process::Abort;
+use std::test::Fail;
 
 /// A client logs in as root without a password, and quits.
 const ROOT_QUITS: &[u8] = b"\x3c\x00\x00\x01\x00\x82\x08\x00\x00\x00\x00\x01\xff\x00\x00\x00\x00\x00\x00\x00\x00\x00\x00\x00\x00\x00\x00\x00\x00\x00\x00\x00\x00\x00\x00\x00root\x00\x00caching_sha2_password\x00\x01\x00\x00\x00\x01";
@@ -36,7 +37,7 @@ fn words(alloc: Global) -> Result<Vec<String>, AllocError> {
 }
 
 #[test]
-fn two_sessions_check_at_once(rt: HostRuntime) -> Result<(), AllocError> {
+fn two_sessions_check_at_once(rt: HostRuntime) -> Result<(), Fail> {
     let alloc = rt.alloc();
     let mut links = Items::new(alloc);
     links.push(link(alloc)?)?;
@@ -62,12 +63,12 @@ fn two_sessions_check_at_once(rt: HostRuntime) -> Result<(), AllocError> {
         &mut maker,
         &gate,
     );
-    assert!(&rt; served.status.code() == 0);
-    assert!(&rt; out.written() == PRINTED);
-    assert!(&rt; gate.met());
+    assert_eq!(rt; served.status.code(), 0);
+    assert_eq!(rt; out.written(), PRINTED);
+    assert!(rt; gate.met());
     let back = door.given_back();
-    assert!(&rt; back.len() == 2);
-    assert!(&rt; back[0].written() == GREETED_1);
-    assert!(&rt; back[1].written() == GREETED_2);
+    assert_eq!(rt; back.len(), 2);
+    assert_eq!(rt; back[0].written(), GREETED_1);
+    assert_eq!(rt; back[1].written(), GREETED_2);
     Ok(())
 }
