@@ -4,6 +4,7 @@
 -- passwords), "Account Locking" and "Failed-Login Tracking and Temporary Account Locking". The order is
 -- this project's own. A day is 86,400 seconds, and sums have no bound.
 use Rattle.std.specs.Prelude.{ℕ, ◌+◌, ◌*◌, ◌==◌, nat_le, Bool, not, ◌&&◌, ◌||◌, if◌then◌else◌, Option, Some, None, bit_and}
+use Rattle.login_lock.specs.declared.TheConstants.{SECONDS_PER_DAY}
 use Rattle.login_lock.specs.Lock.{is_blocked, is_over, next_locks}
 use Rattle.login_lock.specs.declared.LockRule.{LockRule}
 use Rattle.login_lock.specs.declared.Tally.{Tally}
@@ -22,7 +23,7 @@ days_in_force (lifetime.Days days) settings = days
 
 -- a password that lasts so many days is over
 abbrev pub is_over_age : ℕ → ℕ → ℕ → Bool
-is_over_age days changed now = nat_le 1 days && nat_le (changed + 86400 * days) now
+is_over_age days changed now = nat_le 1 days && nat_le (changed + SECONDS_PER_DAY * days) now
 
 -- the password was set to expired, or the lifetime in force is over
 abbrev pub is_expired : Account → Settings → ℕ → Bool

@@ -4,10 +4,7 @@ ghost use Rattle.account_rules.specs.Refusals.{can_handle_expired, days_in_force
 ghost use Rattle.std.specs.Prelude.{◌≡◌};
 
 use crate::accounts::{Account, Lifetime, Settings};
-use login_lock::Tally;
-
-/// The seconds of a day.
-const DAY: u128 = 86_400;
+use login_lock::{SECONDS_PER_DAY, Tally};
 
 /// The capability flag of a client that can go on with an expired password.
 const CAN_HANDLE_EXPIRED_PASSWORDS: u32 = 0x0040_0000;
@@ -45,7 +42,7 @@ pub fn expired(account: &Account, settings: &Settings, now: u64) -> bool
     }
     let days = days_in_force(account.lifetime, settings);
     let changed = account.changed;
-    days >= 1 && u128::from(now) >= u128::from(changed) + DAY * u128::from(days)
+    days >= 1 && u128::from(now) >= u128::from(changed) + SECONDS_PER_DAY * u128::from(days)
 }
 
 fn can_handle_expired(flags: u32) -> bool

@@ -4,6 +4,7 @@
 -- Locking". The failures are the moments, in seconds and oldest first, of the failures that count
 -- since the tally was last cleared. A day is 86,400 seconds, and sums have no bound.
 use Rattle.std.specs.Prelude.{◌≡◌, ℕ, ◌+◌, ◌-◌, ◌*◌, ◌/◌, ◌==◌, nat_le, List, [], ◌∷◌, ◌++◌, length, slice_get, Bool, true, false, not, ◌&&◌, if◌then◌else◌, Option, Some, None}
+use Rattle.login_lock.specs.declared.TheConstants.{SECONDS_PER_DAY}
 use Rattle.login_lock.specs.declared.LockTime.{LockTime}
 use Rattle.login_lock.specs.declared.LockTime.TheVariants.{Days, Unbounded}
 use Rattle.login_lock.specs.declared.LockRule.{LockRule}
@@ -20,7 +21,7 @@ tracks rule = nat_le 1 rule.attempts && lasts rule.time
 
 -- the lock that was set at a moment has ended
 abbrev pub has_ended : LockTime → ℕ → ℕ → Bool
-has_ended (Days days) set now = nat_le (set + 86400 * days) now
+has_ended (Days days) set now = nat_le (set + SECONDS_PER_DAY * days) now
 has_ended Unbounded set now = false
 
 -- a lock was set and has ended
@@ -35,11 +36,11 @@ is_blocked rule (Some set) now = tracks rule && not (has_ended rule.time set now
 
 -- a number of seconds in days, rounded up
 abbrev pub days_of : ℕ → ℕ
-days_of seconds = (seconds + 86399) / 86400
+days_of seconds = (seconds + SECONDS_PER_DAY - 1) / SECONDS_PER_DAY
 
 -- the days that are left of a lock: 0 where none is set, and where it doesn't end
 abbrev pub days_left : LockTime → Option ℕ → ℕ → ℕ
-days_left (Days days) (Some set) now = days_of (set + 86400 * days - now)
+days_left (Days days) (Some set) now = days_of (set + SECONDS_PER_DAY * days - now)
 days_left (Days days) None now = 0
 days_left Unbounded locked now = 0
 

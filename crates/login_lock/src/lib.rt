@@ -15,7 +15,7 @@ ghost use Rattle.std.specs.Option.{ForSome};
 ghost use Rattle.std.specs.Prelude.{◌≡◌, ◌≢◌, ◌↔◌, ℕ, ◌+◌, ◌<◌, ◌≤◌, List, [], ◌∷◌, ◌++◌, IsTrue, if◌then◌else◌, Some, None, is_some, ◌&&◌};
 
 /// The seconds of a day.
-const DAY: u128 = 86_400;
+pub const SECONDS_PER_DAY: u128 = 86_400;
 
 /// How long a lock lasts: PASSWORD_LOCK_TIME.
 #[derive(Debug, Clone, Copy, PartialEq, Eq)]
@@ -34,7 +34,8 @@ impl LockTime {
         ensures { result ≡ has_ended self set now }
     {
         match self {
-            LockTime::Days(days) => u128::from(now) >= u128::from(set) + DAY * u128::from(days),
+            LockTime::Days(days) => u128::from(now)
+                >= u128::from(set) + SECONDS_PER_DAY * u128::from(days),
             LockTime::Unbounded => false,
         }
     }
@@ -145,8 +146,8 @@ impl Tally {
         match rule.time {
             LockTime::Days(days) => match self.locked {
                 Some(set) => {
-                    let end = u128::from(set) + DAY * u128::from(days);
-                    (end - u128::from(now)).div_ceil(DAY) as u32
+                    let end = u128::from(set) + SECONDS_PER_DAY * u128::from(days);
+                    (end - u128::from(now)).div_ceil(SECONDS_PER_DAY) as u32
                 }
                 None => unreachable!(),
             },

@@ -2,6 +2,7 @@
 -- Manual. A day is 86,400 seconds.
 use Rattle.std.specs.Prelude.{ℕ, ◌+◌, ◌*◌, ◌==◌, nat_lt, Bool, false, ◌&&◌, ◌||◌, List, [], ◌∷◌, length, take, map}
 use Rattle.std.specs.List.{list_any, zip}
+use Rattle.login_lock.specs.declared.TheConstants.{SECONDS_PER_DAY}
 use Rattle.factor_chain.specs.Checking.{password_fits}
 use Rattle.factor_chain.specs.declared.credentials.PastRecord.{PastRecord}
 
@@ -11,7 +12,7 @@ most_past = 256
 
 -- the days of a reuse interval aren't over since the password was set
 abbrev pub is_young : (reuse now : ℕ) → PastRecord → Bool
-is_young reuse now record_ = nat_lt now (record_.moment + 86400 * reuse)
+is_young reuse now record_ = nat_lt now (record_.moment + SECONDS_PER_DAY * reuse)
 
 -- the password fits what was recorded
 abbrev pub fits_record : List ℕ → PastRecord → Bool

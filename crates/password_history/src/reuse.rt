@@ -5,10 +5,8 @@ ghost use Rattle.std.specs.Prelude.{◌≡◌, ◌∷◌, length, take, IfOk, On
 
 use factor_chain::{PastRecord, fits_password};
 use lg_base::{Items, Memory};
+use login_lock::SECONDS_PER_DAY;
 use std::alloc::Global;
-
-/// The seconds of a day.
-const DAY: u128 = 86_400;
 
 /// The most past passwords that an account keeps.
 const MOST_PAST: usize = 256;
@@ -28,7 +26,7 @@ pub fn used(alloc: Global, past: &[PastRecord], password: &[u8]) -> Result<Items
 fn is_young(past: &PastRecord, reuse: u16, now: u64) -> bool
     ensures { result ≡ is_young reuse now past.now }
 {
-    u128::from(now) < u128::from(past.moment) + DAY * u128::from(reuse)
+    u128::from(now) < u128::from(past.moment) + SECONDS_PER_DAY * u128::from(reuse)
 }
 
 /// Whether one of the newest past passwords is fitted.
