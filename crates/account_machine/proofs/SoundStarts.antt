@@ -1,23 +1,21 @@
 -- The accounts of every start are sound.
-use Rattle.std.proofs.Common.{◌≡◌, refl, ap, sym, ◌∙◌, subst, ℕ, ◌+◌, ◌<◌, ◌≤◌, ◌==◌, ◌&&◌, List, [], ◌∷◌, codes, find, length, Bool, true, false, not, Option, Some, None, arith, eqb-true, ne_eqb}
+use Rattle.std.proofs.Common.{◌≡◌, refl, ap, sym, ◌∙◌, subst, ℕ, ◌+◌, ◌<◌, ◌≤◌, ◌==◌, ◌&&◌, List, [], ◌∷◌, codes, find, Bool, true, false, not, Option, Some, None, arith, eqb-true, ne_eqb}
 use Rattle.std.specs.List.{AllByRecursion, AllZip, list_any}
 use Rattle.std.specs.Str.{bytes_eq}
 use Rattle.std.proofs.lemmas.List.Elements.{All-from_recursion}
 use Rattle.lg_base.specs.declared.names.Name.{Name}
 use Rattle.lg_outside.specs.Keeping.{RiseAbove}
 use Rattle.lg_outside.specs.declared.keepers.Row.{Row as Kept}
-use Rattle.factor_chain.specs.declared.credentials.Method.{Method}
 use Rattle.factor_chain.specs.declared.credentials.Method.TheVariants as method
 use Rattle.factor_chain.specs.declared.credentials.Stored.{Stored}
 use Rattle.account_rules.specs.declared.accounts.Account.{Account}
 use Rattle.account_history.specs.declared.entries.Opening.{Opening}
 use Rattle.account_history.specs.Naming.{is_named}
-use Rattle.account_history.specs.Refusals.{has_zero}
 use Rattle.account_history.specs.Numbers.{Rise}
 use Rattle.account_history.specs.Sound.{HasFewLabels, NamesDiffer, has_password, once_if, uses}
 use Rattle.account_history.proofs.Numbered.{passed, passing}
 use Rattle.account_history.proofs.Soundness.{named-back}
-use Rattle.account_machine.specs.Loading.{IsRowOf, loaded_accounts, numbered, numbered_account, numbered_secondary, passwords_of}
+use Rattle.account_machine.specs.Loading.{IsRowOf, numbered, numbered_account, numbered_secondary, passwords_of}
 use Rattle.account_machine.specs.Openings.{are_openings, is_opening, is_opening_password, is_opening_user, native_accounts, native_stored, opening_accounts, plain_account, root_account}
 use Rattle.account_machine.specs.SoundStarts.{LoadedAreSound, OpenedAreSound}
 use Rattle.account_machine.proofs.Fitted.{and-both, not-false, or-neither}

@@ -250,10 +250,11 @@ impl Accounts {
     }
 
     /// Executes an account statement that the account with the number `actor` asks for. `salt` is what a new password of
-    /// the caching method takes. The statement is refused, or done, or the keeper fails; where there is a refusal, the
-    /// keeper isn't called. After `Memory` nothing has changed, neither here nor at the keeper. `Memory` is also answered
-    /// where a number, or the count of changes, is at the end of its type. The statement is one that the grammar gives, and
-    /// the salt is of the alphabet of salts.
+    /// the caching method takes. The statement is refused, or done, or the keeper fails; where there is a refusal, or the
+    /// statement is FLUSH PRIVILEGES, the keeper isn't called. After `Memory` nothing has changed here, and at the keeper
+    /// neither a row that it tells nor its count of faults. `Memory` is also answered where a number, or the count of
+    /// changes, is at the end of its type. The statement is one that the grammar gives, and the salt is of the alphabet of
+    /// salts.
     pub fn commit_here<K: Keeper>(
         &mut self,
         alloc: Global,
